@@ -1,0 +1,2 @@
+pub mod Equal
+mod Points

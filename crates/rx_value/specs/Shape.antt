@@ -1,0 +1,63 @@
+-- What fits a shape, and the limits of shapes.
+use Rattle.std.specs.Prelude.{◌≡◌, ℕ, ◌-◌, ◌^◌, ◌<◌, ◌≤◌, ℤ, pos, ◌+ℤ◌, ◌≤ℤ◌, ◌<ℤ◌, Bool, true, false, not, List, [], ◌∷◌, map, drop, length, Some, filter, All}
+use Rattle.std.specs.List.{IsDistinct}
+use Rattle.std.specs.Prelude.{nat_eq, slice_get}
+use Rattle.std.specs.Str.{IsUtf8, chars}
+use Rattle.rx_value.specs.declared.values.Value.{Value}
+use Rattle.rx_value.specs.declared.values.Value.TheVariants.{Null, Int, Text}
+use Rattle.rx_value.specs.declared.shapes.ColType.{ColType}
+use Rattle.rx_value.specs.declared.shapes.ColType.TheVariants.{Whole, VarChar}
+use Rattle.rx_value.specs.declared.shapes.Column.{Column}
+use Rattle.rx_value.specs.declared.shapes.Index.{Index}
+use Rattle.rx_value.specs.declared.shapes.Schema.{Schema}
+
+-- an integer is in the range of a type of so many bits
+abbrev pub InRange : ℕ → Bool → ℤ → Type 0
+InRange bits true n = (pos 0 ≤ℤ (n +ℤ pos (2 ^ (bits - 1)))) × (n <ℤ pos (2 ^ (bits - 1)))
+InRange bits false n = (pos 0 ≤ℤ n) × (n <ℤ pos (2 ^ bits))
+
+-- a value is of a column's type, or NULL
+abbrev pub FitsType : ColType → Value → Type 0
+FitsType kind Null = Unit {0}
+FitsType (Whole bits signed) (Int n) = InRange bits signed n
+FitsType (VarChar count) (Text text) = IsUtf8 text × (length (chars text) ≤ count)
+FitsType _ _ = ⊥
+
+-- a value may stand in a column
+pub record FitsColumn (column : Column) (value : Value) : Type 0 where
+  pub kind : FitsType column.kind value
+  pub null : value ≡ Null → column.nullable ≡ true
+
+-- a row has one fitting value per column
+abbrev pub FitsColumns : List Column → List Value → Type 0
+FitsColumns [] [] = Unit {0}
+FitsColumns (c ∷ cs) (v ∷ vs) = FitsColumn c v × FitsColumns cs vs
+FitsColumns _ _ = ⊥
+
+-- a row fits a schema
+abbrev pub FitsRow : Schema → List Value → Type 0
+FitsRow schema row = FitsColumns schema.columns row
+
+-- the columns of an index by number
+abbrev pub columns_of : Index → List ℕ
+columns_of index = map (λ p. p.column) index.parts
+
+-- a column that is there and can't be NULL
+abbrev pub IsNotNull : List Column → ℕ → Type 0
+IsNotNull columns c = (column : Column) × (slice_get columns c ≡ Some column) × (column.nullable ≡ false)
+
+-- an index has 1 to 16 parts, on columns that are there, none twice; a primary one is unique and never NULL
+pub record FitsIndex (columns : List Column) (index : Index) : Type 0 where
+  pub some : 0 < length index.parts
+  pub few : length index.parts ≤ 16
+  pub there : All (λ c. c < length columns) (columns_of index)
+  pub distinct : IsDistinct nat_eq (columns_of index)
+  pub unique : index.primary ≡ true → index.unique ≡ true
+  pub not_null : index.primary ≡ true → All (IsNotNull columns) (columns_of index)
+
+-- A schema within the limits: at most 256 columns and 64 secondary indexes, the primary key first where there is one.
+pub record IsSchema (schema : Schema) : Type 0 where
+  pub few_columns : length schema.columns ≤ 256
+  pub few_indexes : length (filter (λ i. not i.primary) schema.indexes) ≤ 64
+  pub indexes : All (FitsIndex schema.columns) schema.indexes
+  pub primary_first : All (λ i. i.primary ≡ false) (drop 1 schema.indexes)
