@@ -1,4 +1,4 @@
-ghost use Rattle.std.specs.Prelude.{◌≡◌, [], ◌∷◌, ◌++◌, IfOk, OnOk, OnErr};
+ghost use Rattle.std.specs.Prelude.{◌≡◌, [], ◌∷◌, ◌++◌, take, IfOk, OnOk, OnErr};
 
 use crate::values::{Value, copy_values};
 use std::alloc::{AllocError, Global};
@@ -50,6 +50,21 @@ impl Bytes {
     {
         self.items.push(item)?;
         Ok(())
+    }
+
+    /// Adds these bytes at the end. A refused call leaves the list.
+    pub fn append(&mut self, bytes: &[u8]) -> Result<(), AllocError>
+        ensures ok { OnOk result (self.new ≡ self.old ++ bytes.now) }
+        ensures err { OnErr result (self.new ≡ self.old) }
+    {
+        self.items.extend_from_slice(bytes)
+    }
+
+    /// Leaves the first `length` bytes alone, or all where there are no more.
+    pub fn truncate(&mut self, length: usize)
+        ensures { self.new ≡ take length self.old }
+    {
+        self.items.truncate(length);
     }
 
     /// The items in order.

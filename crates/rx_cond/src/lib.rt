@@ -1,0 +1,17 @@
+//! Conditions over rows: their truth in three values, their columns and their parts.
+#![tactic(auto)]
+
+mod columns;
+mod conds;
+mod copies;
+mod logic;
+mod parts;
+mod single;
+#[cfg(test)]
+mod tests;
+mod truths;
+
+pub use columns::mentions;
+pub use conds::{Cond, Op, Operand, Tri};
+pub use parts::{CondRefs, conjuncts, disjuncts};
+pub use truths::truth;

@@ -1,0 +1,96 @@
+ghost use Rattle.std.specs.Prelude.{◌≡◌, ◌<◌, length, IfSome};
+ghost use Rattle.std.specs.Option.{option_map};
+ghost use Rattle.std.specs.Str.{bytes_eq};
+ghost use Rattle.rx_forms.specs.Reading.{after_word, is_sign_kind, after_sign, is_text_kind, after_text, name_at, is_end};
+
+use rx_token::{Token, TokenKind, is_reserved, is_word, signs};
+
+/// The tokens behind a word.
+pub(crate) fn after_word<'a>(tokens: &'a [Token], word: &[u8]) -> Option<&'a [Token]>
+    ensures value { option_map (λ rest. rest.now) result ≡ after_word word.now tokens.now }
+    ensures shorter { IfSome result (λ rest. length rest.now < length tokens.now) }
+{
+    let [token, rest @ ..] = tokens else {
+        return None;
+    };
+    if is_word(token, word) {
+        Some(rest)
+    } else {
+        None
+    }
+}
+
+fn is_sign_kind(kind: TokenKind, sign: u8) -> bool
+    ensures { result ≡ is_sign_kind sign kind }
+{
+    match kind {
+        TokenKind::Sign(number) => number == sign,
+        _ => false,
+    }
+}
+
+/// The tokens behind a sign.
+pub(crate) fn after_sign(tokens: &[Token], sign: u8) -> Option<&[Token]>
+    ensures value { option_map (λ rest. rest.now) result ≡ after_sign sign tokens.now }
+    ensures shorter { IfSome result (λ rest. length rest.now < length tokens.now) }
+{
+    let [token, rest @ ..] = tokens else {
+        return None;
+    };
+    if is_sign_kind(token.kind, sign) {
+        Some(rest)
+    } else {
+        None
+    }
+}
+
+fn is_text_kind(kind: TokenKind) -> bool
+    ensures { result ≡ is_text_kind kind }
+{
+    matches!(kind, TokenKind::Str)
+}
+
+fn same_text(text: &[u8], other: &[u8]) -> bool
+    ensures { result ≡ bytes_eq text.now other.now }
+{
+    text == other
+}
+
+/// The tokens behind a text between quotes.
+pub(crate) fn after_text<'a>(tokens: &'a [Token], text: &[u8]) -> Option<&'a [Token]>
+    ensures { option_map (λ rest. rest.now) result ≡ after_text text.now tokens.now }
+{
+    let [token, rest @ ..] = tokens else {
+        return None;
+    };
+    if is_text_kind(token.kind) && same_text(token.text.as_slice(), text) {
+        return Some(rest);
+    }
+    None
+}
+
+/// A name at the front, and the tokens behind it.
+pub(crate) fn name_at(tokens: &[Token]) -> Option<(&[u8], &[Token])>
+    ensures value { option_map (λ x. (x.0.now, x.1.now)) result ≡ name_at tokens.now }
+    ensures shorter { IfSome result (λ x. length x.1.now < length tokens.now) }
+{
+    let [token, rest @ ..] = tokens else {
+        return None;
+    };
+    let text = token.text.as_slice();
+    if matches!(token.kind, TokenKind::Word) && !is_reserved(text) {
+        return Some((text, rest));
+    }
+    None
+}
+
+/// Whether nothing comes any more, or one semicolon.
+pub(crate) fn is_end(tokens: &[Token]) -> bool
+    ensures { result ≡ is_end tokens.now }
+{
+    match tokens {
+        [] => true,
+        [token] => is_sign_kind(token.kind, signs::SEMICOLON),
+        _ => false,
+    }
+}

@@ -1,0 +1,5 @@
+pub mod Fronts
+pub mod Laws
+pub mod Pieces
+pub mod Runs
+pub mod Utf8

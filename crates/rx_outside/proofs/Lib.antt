@@ -1,0 +1,3 @@
+pub mod Chains
+mod Lookups
+mod Pieces

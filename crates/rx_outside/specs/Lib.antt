@@ -1,0 +1,9 @@
+pub mod Buffer
+pub mod Causes
+pub mod Entries
+pub mod Files
+pub mod Listed
+pub mod Memory
+pub mod Sink
+pub mod SinkMemory
+pub mod Sure

@@ -1,0 +1,22 @@
+-- What a table in memory holds.
+use Rattle.std.specs.Prelude.{◌≤◌, List, length, All}
+use Rattle.rx_value.specs.declared.values.Value.{Value}
+use Rattle.rx_value.specs.declared.shapes.Schema.{Schema}
+use Rattle.rx_value.specs.Shape.{IsSchema, FitsRow}
+use Rattle.rx_store.specs.declared.tables.Counts.{Counts}
+
+-- a shape, the rows in the order of their ids, and what was read of them
+pub record Stored : Type 0 where
+  pub schema : Schema
+  pub rows : List (List Value)
+  pub counts : Counts
+
+-- nothing was read yet
+abbrev pub no_counts : Counts
+no_counts = record { seeks = 0; entries = 0; rows = 0 }
+
+-- rows that may stand in a table of this shape
+pub record IsStorable (schema : Schema) (rows : List (List Value)) : Type 0 where
+  pub limits : IsSchema schema
+  pub few : length rows ≤ 1000000
+  pub fit : All (FitsRow schema) rows

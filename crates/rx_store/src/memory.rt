@@ -1,0 +1,127 @@
+ghost use Rattle.std.specs.Prelude.{◌≡◌, Some, true, false, length};
+ghost use Rattle.rx_store.specs.Stored.{IsStorable, no_counts};
+
+use crate::tables::{Counts, Table, TableFault};
+use rx_value::{Row, RowList, Schema};
+use std::alloc::Global;
+use std::marker::Model;
+
+/// A table in memory: its rows are numbered in the order in which they were given. No call of it fails
+/// but for want of memory.
+#[derive(Drop)]
+pub struct MemTable {
+    schema: Schema,
+    rows: RowList,
+    counts: Counts,
+}
+
+impl Model for MemTable {
+    ghost use Rattle.rx_store.specs.Stored.{Stored, IsStorable};
+
+    ghost Value = { Stored };
+
+    ghost view = { λ t. record { schema = t.schema; rows = t.rows; counts = t.counts } };
+
+    ghost invariant = { λ t. IsStorable t.schema t.rows };
+}
+
+impl MemTable {
+    /// A table of these rows, of which nothing was read yet. Takes no memory.
+    pub fn of_rows(schema: Schema, rows: RowList) -> MemTable
+        requires { IsStorable schema rows }
+        ensures { result ≡ record { schema = schema; rows = rows; counts = no_counts } }
+    {
+        MemTable {
+            schema,
+            rows,
+            counts: Counts {
+                seeks: 0,
+                entries: 0,
+                rows: 0,
+            },
+        }
+    }
+}
+
+impl Table for MemTable {
+    ghost schema_of = { λ t. t.schema };
+
+    ghost told = { λ t. Some t.rows };
+
+    ghost row_count = { λ t. length t.rows };
+
+    ghost counted = { λ t. t.counts };
+
+    ghost faults = { λ t. 0 };
+
+    ghost damages = { λ t. 0 };
+
+    ghost flawed = { λ t at. false };
+
+    ghost sure = { λ t. true };
+
+    ghost kept = { λ old new. Unit {0} };
+
+    ghost spent = { λ old new. Unit {0} };
+
+    ghost kept_same = { λ t. tt };
+
+    ghost kept_chain = { λ a b c p q. tt };
+
+    ghost spent_same = { λ t. tt };
+
+    ghost spent_chain = { λ a b c p q. tt };
+
+    fn shape(&self) -> &Schema {
+        &self.schema
+    }
+
+    fn rows(&self) -> u64 {
+        self.rows.as_slice().len() as u64
+    }
+
+    fn row(&mut self, alloc: Global, id: u64) -> Result<Row, TableFault> {
+        let Ok(row) = self.rows.as_slice()[id as usize].copy(alloc) else {
+            return Err(TableFault::NoMemory);
+        };
+        self.counts.rows = self.counts.rows.saturating_add(1);
+        Ok(row)
+    }
+
+    fn counts(&self) -> Counts {
+        self.counts
+    }
+}
+
+#[cfg(test)]
+mod tests {
+    use super::*;
+    use rx_value::{Bytes, ColumnList, IndexList};
+    use std::test::Fail;
+
+    #[test]
+    fn reads_and_counts_rows(rt: HostRuntime) -> Result<(), Fail> {
+        let alloc = rt.alloc();
+        let schema = Schema {
+            table: Bytes::of(alloc, b"t")?,
+            columns: ColumnList::new(alloc),
+            indexes: IndexList::new(alloc),
+        };
+        let mut rows = RowList::new(alloc);
+        rows.push(Row::new(alloc))?;
+        let mut table = MemTable::of_rows(schema, rows);
+        assert_eq!(rt; table.rows(), 1);
+        assert_eq!(rt; table.shape().table.as_slice(), b"t".as_slice());
+        let row = table.row(alloc, 0)?;
+        assert_eq!(rt; row.as_slice().len(), 0);
+        assert_eq!(rt;
+            table.counts(),
+            Counts {
+                seeks: 0,
+                entries: 0,
+                rows: 1
+            }
+        );
+        Ok(())
+    }
+}

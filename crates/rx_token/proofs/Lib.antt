@@ -1,0 +1,15 @@
+pub mod Closes
+pub mod Fronts
+pub mod Further
+pub mod Gaps
+pub mod Names
+pub mod Once
+pub mod Places
+pub mod Readings
+pub mod Rises
+pub mod Runs
+pub mod Longest
+pub mod Steps
+pub mod Texts
+pub mod Whole
+pub mod Widths

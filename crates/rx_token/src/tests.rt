@@ -1,0 +1,160 @@
+use crate::{
+    Token, TokenKind, comment_ends, is_reserved, is_word, one_reading, quoted_names, quoted_texts,
+    scan_reads, spans_rise, tokens,
+};
+use rx_value::Bytes;
+use std::alloc::Global;
+use std::str::from_utf8;
+use std::test::Fail;
+
+/// The tokens of a text as `kind start end text;`, one after the other, and then the bad place.
+fn shown(alloc: Global, text: &[u8]) -> Result<String, Fail> {
+    let scanned = tokens(alloc, text)?;
+    let mut shown = String::new(alloc);
+    for token in scanned.list.as_slice() {
+        if !shown.is_empty() {
+            shown.push(' ')?;
+        }
+        let spelling = from_utf8(token.text.as_slice())?;
+        let kind = token.kind;
+        let (start, end) = (token.start, token.end);
+        shown.push_str(&format!(in alloc; "{kind:?} {start} {end} {spelling};")?)?;
+    }
+    if let Some(place) = scanned.bad {
+        if !shown.is_empty() {
+            shown.push(' ')?;
+        }
+        shown.push_str(&format!(in alloc; "bad {place}")?)?;
+    }
+    Ok(shown)
+}
+
+#[test]
+fn reads_tokens(rt: HostRuntime) -> Result<(), Fail> {
+    let rows: [(&[u8], &str); 53] = [
+        (b"", ""),
+        (b" \t\n\x0b\x0c\r1", "Number(1) 6 7 1;"),
+        (b"1\x08", "Number(1) 0 1 1; bad 1"),
+        (b"\x0e", "bad 0"),
+        (b"-- x\n1--", "Number(1) 5 6 1;"),
+        (b"--\n1", "Number(1) 3 4 1;"),
+        (b"--1", "Sign(14) 0 1 -; Sign(14) 1 2 -; Number(1) 2 3 1;"),
+        (b"# 1\r2\n3#", "Number(3) 6 7 3;"),
+        (b"/**/1/* 2 * / */3", "Number(1) 4 5 1; Number(3) 16 17 3;"),
+        (b"/*/ */1", "Number(1) 6 7 1;"),
+        (b"/*/", "bad 0"),
+        (b"1 /* 2 *", "Number(1) 0 1 1; bad 2"),
+        (b"/*! 1 */", "bad 0"),
+        (b"1/*+ 2 */", "Number(1) 0 1 1; bad 1"),
+        (b"/* ! */1 / 2", "Number(1) 7 8 1; bad 9"),
+        (
+            b"Select a_$9,_b",
+            "Word 0 6 Select; Word 7 11 a_$9; Sign(2) 11 12 ,; Word 12 14 _b;",
+        ),
+        (b"a $b", "Word 0 1 a; bad 2"),
+        (b"a\xc3\xa9", "Word 0 1 a; bad 1"),
+        (
+            b"aaaaaaaaaaaaaaaaaaaaaaaaaaaaaaaaaaaaaaaaaaaaaaaaaaaaaaaaaaaaaaaa",
+            "Word 0 64 aaaaaaaaaaaaaaaaaaaaaaaaaaaaaaaaaaaaaaaaaaaaaaaaaaaaaaaaaaaaaaaa;",
+        ),
+        (
+            b" aaaaaaaaaaaaaaaaaaaaaaaaaaaaaaaaaaaaaaaaaaaaaaaaaaaaaaaaaaaaaaaaa",
+            "bad 1",
+        ),
+        (
+            b"007 1-2",
+            "Number(7) 0 3 007; Number(1) 4 5 1; Sign(14) 5 6 -; Number(2) 6 7 2;",
+        ),
+        (
+            b"170141183460469231731687303715884105727",
+            "Number(170141183460469231731687303715884105727) 0 39 170141183460469231731687303715884105727;",
+        ),
+        (b"170141183460469231731687303715884105728", "bad 0"),
+        (
+            b"00000000000000000000000000000000000000001",
+            "Number(1) 0 41 00000000000000000000000000000000000000001;",
+        ),
+        (b"10000000000000000000000000000000000000000", "bad 0"),
+        (b"1a", "bad 0"),
+        (b"1_", "bad 0"),
+        (b"1$", "bad 0"),
+        (b"1.", "bad 0"),
+        (b"1.5", "bad 0"),
+        (b".5", "bad 0"),
+        (b"`a``b` `select`", "Quoted 0 6 a`b; Quoted 7 15 select;"),
+        (b"```` ` ~`", "Quoted 0 4 `; Quoted 5 9  ~;"),
+        (b"``", "bad 0"),
+        (b"1 `a``", "Number(1) 0 1 1; bad 2"),
+        (b"`", "bad 0"),
+        (b"`\x1f`", "bad 0"),
+        (b"`\x7f`", "bad 0"),
+        (
+            b"``````````````````````````````````````````````````````````````````````````````````````````````````````````````````````````````````",
+            "Quoted 0 130 ````````````````````````````````````````````````````````````````;",
+        ),
+        (
+            b"`aaaaaaaaaaaaaaaaaaaaaaaaaaaaaaaaaaaaaaaaaaaaaaaaaaaaaaaaaaaaaaaaa`",
+            "bad 0",
+        ),
+        (b"'' 'a''b\"'", "Str 0 2 ; Str 3 10 a'b\";"),
+        (b"\"a\"\"b'\"", "Str 0 7 a\"b';"),
+        (b"'\\0\\b\\n\\r\\t\\Z'", "Str 0 14 \x00\x08\n\r\t\x1a;"),
+        (b"'\\%\\_\\x\\'\\\\'", "Str 0 12 \\%\\_x'\\;"),
+        (b"'\xc3\xa9\\\xc3\xa9'", "Str 0 7 éé;"),
+        (b"'\xff'", "bad 0"),
+        (b"'a''", "bad 0"),
+        (b"'a\\'", "bad 0"),
+        (b"'a\\", "bad 0"),
+        (b"1 \"a'", "Number(1) 0 1 1; bad 2"),
+        (
+            b"(),;*=+-",
+            "Sign(0) 0 1 (; Sign(1) 1 2 ); Sign(2) 2 3 ,; Sign(3) 3 4 ;; Sign(4) 4 5 *; Sign(5) 5 6 =; Sign(13) 6 7 +; Sign(14) 7 8 -;",
+        ),
+        (
+            b"<=>=<=<>>=!=<",
+            "Sign(6) 0 3 <=>; Sign(5) 3 4 =; Sign(8) 4 6 <=; Sign(11) 6 8 <>; Sign(10) 8 10 >=; Sign(12) 10 12 !=; Sign(7) 12 13 <;",
+        ),
+        (b"> =!", "Sign(9) 0 1 >; Sign(5) 2 3 =; bad 3"),
+    ];
+    for (text, want) in rows {
+        let shown = shown(rt.alloc(), text)?;
+        assert_eq!(rt; shown.as_str(), want);
+    }
+    Ok(())
+}
+
+#[test]
+fn knows_words(rt: HostRuntime) -> Result<(), Fail> {
+    let reserved =
+        "SELECT DISTINCT ALL FROM USE IGNORE INDEX KEY WHERE GROUP BY ORDER ASC DESC AND OR NOT IN BETWEEN LIKE IS NULL TRUE FALSE SET";
+    for word in reserved.split(' ') {
+        assert!(rt; is_reserved(word.as_bytes()), "{word}");
+    }
+    for word in ["", "COUNT", "PRIMARY", "sets", "se"] {
+        assert!(rt; !is_reserved(word.as_bytes()), "{word}");
+    }
+    assert!(rt; is_reserved(b"sElEcT"));
+    let text = Bytes::of(rt.alloc(), b"From")?;
+    let token = Token {
+        kind: TokenKind::Word,
+        start: 0,
+        end: 4,
+        text,
+    };
+    assert!(rt; is_word(&token, b"FROM"));
+    assert!(rt; !is_word(&token, b"FRO"));
+    let quoted = Token {
+        kind: TokenKind::Quoted,
+        start: 0,
+        end: 6,
+        text: token.text,
+    };
+    assert!(rt; !is_word(&quoted, b"FROM"));
+    comment_ends();
+    quoted_names();
+    quoted_texts();
+    one_reading();
+    scan_reads();
+    spans_rise();
+    Ok(())
+}

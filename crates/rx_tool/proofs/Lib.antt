@@ -1,0 +1,4 @@
+mod Blocks
+mod Choice
+pub mod Plain
+mod Scanning

@@ -1,0 +1,15 @@
+pub mod Answer
+pub mod Blocks
+pub mod Candidates
+pub mod Checked
+pub mod Ending
+pub mod Output
+pub mod Plan
+pub mod Printed
+pub mod Reading
+pub mod Running
+pub mod Select
+pub mod Settings
+pub mod Stops
+pub mod Trace
+pub mod Words

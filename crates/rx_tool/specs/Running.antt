@@ -1,0 +1,53 @@
+-- What the run of a script puts, whole or stopped.
+use Rattle.std.specs.Prelude.{◌≡◌, ℕ, List, take, Option, Some, None}
+use Rattle.std.specs.List.{concat}
+use Rattle.rx_value.specs.declared.values.Value.{Value}
+use Rattle.rx_value.specs.Counting.{Rose}
+use Rattle.rx_outside.specs.Sink.{Takes, IsFront}
+use Rattle.rx_forms.specs.Step.{Step}
+use Rattle.rx_tool.specs.declared.settings.Settings.{Settings}
+use Rattle.rx_tool.specs.declared.engine.SelectFault.{SelectFault}
+use Rattle.rx_tool.specs.declared.engine.SelectFault.TheVariants.{ReadFault, WriteFault, Damaged, NoMemory}
+use Rattle.rx_tool.specs.Blocks.{blocks_of_step, blocks_from}
+
+-- all of these blocks were put
+abbrev pub PutsAll : List (List ℕ) → Option (List ℕ) → Option (List ℕ) → Type 0
+PutsAll blocks before after = Takes before after (concat blocks)
+
+-- some first blocks were put
+abbrev pub PutsSome : List (List ℕ) → Option (List ℕ) → Option (List ℕ) → Type 0
+PutsSome blocks before after = (n : ℕ) × Takes before after (concat (take n blocks))
+
+-- a front of the blocks' text was put
+abbrev pub PutsFront : List (List ℕ) → Option (List ℕ) → Option (List ℕ) → Type 0
+PutsFront blocks before after = (front : List ℕ) × IsFront front (concat blocks) × Takes before after front
+
+-- what is put where a run stops: a front of the text after a failed write, whose count rose, and else whole blocks
+abbrev pub Stops : List (List ℕ) → Option (List ℕ) → Option (List ℕ) → ℕ → ℕ → SelectFault → Type 0
+Stops blocks before after faults now ReadFault = PutsSome blocks before after
+Stops blocks before after faults now WriteFault = Rose faults now × PutsFront blocks before after
+Stops blocks before after faults now (Damaged at) = PutsSome blocks before after
+Stops blocks before after faults now NoMemory = PutsSome blocks before after
+
+-- what is known of a stop where the rows aren't told
+abbrev pub StopsUntold : ℕ → ℕ → SelectFault → Type 0
+StopsUntold faults now WriteFault = Rose faults now
+StopsUntold faults now fault = Unit {0}
+
+-- a step was run
+abbrev pub RunsStep : Option (List (List Value)) → Settings → Step → Option (List ℕ) → Option (List ℕ) → Type 0
+RunsStep None settings step before after = Unit {0}
+RunsStep (Some rows) settings step before after = PutsAll (blocks_of_step settings step rows) before after
+
+-- steps were run, the first one under these settings
+abbrev pub RunsScript : Option (List (List Value)) → Settings → List Step → Option (List ℕ) → Option (List ℕ) → Type 0
+RunsScript None settings steps before after = Unit {0}
+RunsScript (Some rows) settings steps before after = PutsAll (blocks_from settings steps rows) before after
+
+abbrev pub StopsStep : Option (List (List Value)) → Settings → Step → Option (List ℕ) → Option (List ℕ) → ℕ → ℕ → SelectFault → Type 0
+StopsStep None settings step before after faults now fault = StopsUntold faults now fault
+StopsStep (Some rows) settings step before after faults now fault = Stops (blocks_of_step settings step rows) before after faults now fault
+
+abbrev pub StopsScript : Option (List (List Value)) → Settings → List Step → Option (List ℕ) → Option (List ℕ) → ℕ → ℕ → SelectFault → Type 0
+StopsScript None settings steps before after faults now fault = StopsUntold faults now fault
+StopsScript (Some rows) settings steps before after faults now fault = Stops (blocks_from settings steps rows) before after faults now fault

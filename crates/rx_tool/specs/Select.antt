@@ -1,0 +1,52 @@
+-- What one SELECT puts.
+use Rattle.std.specs.Prelude.{◌≡◌, ℕ, ◌<◌, List, length, Option, Some, None}
+use Rattle.rx_value.specs.declared.values.Value.{Value}
+use Rattle.rx_store.specs.declared.tables.TableFault.{TableFault}
+use Rattle.rx_store.specs.declared.tables.TableFault.TheVariants as of_table
+use Rattle.rx_outside.specs.Sink.{Takes, IsFront}
+use Rattle.rx_forms.specs.Step.{Asked}
+use Rattle.rx_tool.specs.declared.engine.SelectFault.{SelectFault}
+use Rattle.rx_tool.specs.declared.engine.SelectFault.TheVariants.{ReadFault, WriteFault, Damaged, NoMemory}
+use Rattle.rx_tool.specs.Answer.{answer, block_of}
+use Rattle.rx_tool.specs.declared.candidates.Kind.{Kind}
+use Rattle.rx_tool.specs.declared.settings.Settings.{Settings}
+use Rattle.rx_tool.specs.Candidates.{visited}
+use Rattle.rx_tool.specs.Blocks.{block_for}
+
+-- the text is what the query prints of the rows that are read in this way, where the rows are told
+abbrev pub IsAnswerOf : Kind → Asked → Option (List (List Value)) → List ℕ → Type 0
+IsAnswerOf kind q None text = Unit {0}
+IsAnswerOf kind q (Some rows) text = text ≡ block_of (answer q (visited kind rows))
+
+-- the text is the statement's block, where the rows are told
+abbrev pub IsBlock : Settings → ℕ → Asked → Option (List (List Value)) → List ℕ → Type 0
+IsBlock settings number q None text = Unit {0}
+IsBlock settings number q (Some rows) text = text ≡ block_for settings number q rows
+
+-- the block was put
+abbrev pub TakesBlock : Settings → ℕ → Asked → Option (List (List Value)) → Option (List ℕ) → Option (List ℕ) → Type 0
+TakesBlock settings number q told before after = (text : List ℕ) × IsBlock settings number q told text × Takes before after text
+
+-- a front of the block was put, and not all of it
+abbrev pub TakesFrontOfBlock : Settings → ℕ → Asked → Option (List (List Value)) → Option (List ℕ) → Option (List ℕ) → Type 0
+TakesFrontOfBlock settings number q told before after =
+    (text : List ℕ) × (front : List ℕ) × IsBlock settings number q told text × IsFront front text × (length front < length text) × Takes before after front
+
+-- nothing was put
+pub record Untouched {O : Type 0} (text : O → Option (List ℕ)) (faults : O → ℕ) (room : O → Option ℕ) (old new : O) : Type 0 where
+  pub text_stays : text new ≡ text old
+  pub faults_stay : faults new ≡ faults old
+  pub room_stays : room new ≡ room old
+
+-- the fault of the table, where it is one
+abbrev pub table_fault : SelectFault → Option TableFault
+table_fault ReadFault = Some of_table.ReadFault
+table_fault WriteFault = None
+table_fault (Damaged at) = Some (of_table.Damaged at)
+table_fault NoMemory = Some of_table.NoMemory
+
+-- a fault of the table as one of the SELECT
+abbrev pub select_fault : TableFault → SelectFault
+select_fault of_table.ReadFault = ReadFault
+select_fault (of_table.Damaged at) = Damaged at
+select_fault of_table.NoMemory = NoMemory

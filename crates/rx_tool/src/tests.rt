@@ -1,0 +1,142 @@
+use crate::{Status, run};
+use rx_outside::{MemFiles, MemSink};
+use std::alloc::{AllocError, Global};
+use std::test::Fail;
+
+const SCHEMA: &str = "CREATE TABLE t (a int NOT NULL, b int NOT NULL)";
+
+// The words, each as a text of its own.
+fn words_of(alloc: Global, words: &[&str]) -> Result<Vec<String>, AllocError> {
+    let mut all = Vec::new(alloc);
+    for word in words {
+        all.push(String::from_str(alloc, word)?)?;
+    }
+    Ok(all)
+}
+
+// Runs the words over files of these contents, and answers the status and what was put.
+fn ran(
+    alloc: Global,
+    words: &[&str],
+    texts: [&str; 3],
+) -> Result<(Status, MemSink, MemSink), AllocError> {
+    let words = words_of(alloc, words)?;
+    let mut files = MemFiles::new(alloc);
+    for (name, text) in ["schema", "data", "script"].iter().zip(texts.iter()) {
+        files.add(name, text.as_bytes())?;
+    }
+    let mut out = MemSink::new(alloc, 4096)?;
+    let mut err = MemSink::new(alloc, 64)?;
+    let ran = run(alloc, words.as_slice(), files, &mut out, &mut err);
+    Ok((ran.status, out, err))
+}
+
+#[test]
+fn puts_the_defined_text_or_line(rt: HostRuntime) -> Result<(), Fail> {
+    let nullable = "CREATE TABLE t (a int, b int NOT NULL);";
+    let pairs = "a,b\n1,2\n3,4\n";
+    let rows = [
+        (
+            [SCHEMA, pairs, "SELECT b FROM t WHERE a > 1"],
+            Status::Done,
+            "4\n\\. 1\n",
+            "",
+        ),
+        (
+            [SCHEMA, pairs, "SELECT * FROM T WHERE a >= -1 AND b <> 4;"],
+            Status::Done,
+            "1\t2\n\\. 1\n",
+            "",
+        ),
+        (
+            [SCHEMA, "A,B\n", "SELECT b FROM t"],
+            Status::Done,
+            "\\. 0\n",
+            "",
+        ),
+        (
+            [nullable, "a,b\n\\N,2\n-3,4\n", "SELECT b, a FROM t"],
+            Status::Done,
+            "2\t\\N\n4\t-3\n\\. 2\n",
+            "",
+        ),
+        (
+            [
+                nullable,
+                "a,b\n\\N,2\n-3,4\n",
+                "SELECT b FROM t WHERE a != 5",
+            ],
+            Status::Done,
+            "4\n\\. 1\n",
+            "",
+        ),
+        (
+            ["CREATE TABLE t (a varchar(3))", pairs, ""],
+            Status::Refused,
+            "",
+            "refused: not built: schema\n",
+        ),
+        (
+            [SCHEMA, "a,b\n1\n", ""],
+            Status::Refused,
+            "",
+            "refused: not built: data\n",
+        ),
+        (
+            [SCHEMA, "a,b\n\\N,1\n", ""],
+            Status::Refused,
+            "",
+            "refused: not built: data\n",
+        ),
+        (
+            [SCHEMA, pairs, "SELECT a FROM t WHERE a = 1 OR a = 2"],
+            Status::Refused,
+            "",
+            "refused: not built: script\n",
+        ),
+        (
+            [SCHEMA, pairs, "SELECT c FROM t"],
+            Status::Refused,
+            "",
+            "refused: not built: script\n",
+        ),
+    ];
+    for (texts, status, text, line) in rows {
+        let (ended, out, err) = ran(rt.alloc(), &["select", "schema", "data", "script"], texts)?;
+        assert_eq!(rt; ended, status, "{texts:?}");
+        assert_eq!(rt; out.bytes(), text.as_bytes(), "{texts:?}");
+        assert_eq!(rt; err.bytes(), line.as_bytes(), "{texts:?}");
+    }
+    Ok(())
+}
+
+#[test]
+fn refuses_words_and_misses_files(rt: HostRuntime) -> Result<(), Fail> {
+    let texts = [SCHEMA, "a,b\n", "SELECT a FROM t"];
+    let (ended, _, err) = ran(rt.alloc(), &["select", "schema", "data"], texts)?;
+    assert_eq!(rt; ended, Status::Refused);
+    assert_eq!(rt; err.bytes(), b"refused: words\n".as_slice());
+    let (ended, _, err) = ran(rt.alloc(), &["select", "schema", "-", "script"], texts)?;
+    assert_eq!(rt; ended, Status::Refused);
+    assert_eq!(rt; err.bytes(), b"refused: words\n".as_slice());
+    let (ended, out, err) = ran(rt.alloc(), &["select", "schema", "none", "script"], texts)?;
+    assert_eq!(rt; ended, Status::Outside);
+    assert_eq!(rt; out.bytes().len(), 0);
+    assert_eq!(rt; err.bytes(), b"failed: read\n".as_slice());
+    Ok(())
+}
+
+#[test]
+fn traces_the_table_scan(rt: HostRuntime) -> Result<(), Fail> {
+    let script = "SET optimizer_trace='enabled=on';SELECT b FROM t WHERE a > 1";
+    let (ended, out, _) = ran(
+        rt.alloc(),
+        &["select", "schema", "data", "script"],
+        [SCHEMA, "a,b\n1,2\n3,4\n", script],
+    )?;
+    assert_eq!(rt; ended, Status::Done);
+    let text =
+        b"4\n\\. 1\n{\"chosen_range_access_summary\":{\"cost\":24,\"n\":1,\"type\":\"table_scan\"},\"range_analysis\":{\"analyzing_index_merge_union\":[],\"analyzing_roworder_intersect\":[],\"covering_index_scans\":[],\"group_index_range\":[],\"potential_range_indexes\":[],\"range_scan_alternatives\":[],\"skip_scan_range\":[],\"table_scan\":{\"cost\":24,\"index_only\":false,\"n\":1,\"rows\":2,\"scans\":[],\"type\":\"table_scan\"}},\"reads\":{\"dive_seeks\":0,\"entries\":0,\"rows\":2,\"seeks\":0},\"statement\":2}\n";
+    assert_eq!(rt; out.bytes(), text.as_slice());
+    Ok(())
+}

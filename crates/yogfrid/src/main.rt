@@ -1,0 +1,29 @@
+//! The command line program: it carries out its words by the system's files and streams.
+#![tactic(auto)]
+
+mod real;
+
+use real::{RealFiles, RealSink};
+use rx_tool::run;
+use std::process::ExitCode;
+
+fn main(rt: HostRuntime) -> ExitCode {
+    let alloc = rt.alloc();
+    let mut out = RealSink::new(rt.stdout());
+    let mut err = RealSink::new(rt.stderr());
+    let Ok(words) = std::env::args(&rt) else {
+        return ExitCode::from(3);
+    };
+    let Ok(words) = words.skip(1).collect(alloc) else {
+        return ExitCode::from(3);
+    };
+    let words: Vec<String> = words;
+    let ran = run(
+        alloc,
+        words.as_slice(),
+        RealFiles::new(rt),
+        &mut out,
+        &mut err,
+    );
+    ExitCode::from(ran.status as u8)
+}

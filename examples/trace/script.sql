@@ -1,0 +1,2 @@
+SET optimizer_trace='enabled=on';
+SELECT b FROM t WHERE a > 1
