@@ -84,7 +84,7 @@ fn show_test(alloc: Global, shown: &mut Vec<u8>, cond: &Cond) -> Result<(), Allo
             shown.extend_from_slice(sign(*op))?;
             show_side(alloc, shown, right)?;
         }
-        Cond::Conj(_) => shown.extend_from_slice(b"..")?,
+        _ => shown.extend_from_slice(b"..")?,
     }
     Ok(())
 }

@@ -1,20 +1,19 @@
 -- The blocks of a script, one step after another.
-use Rattle.std.proofs.Common.{◌≡◌, ◌≤◌, ℕ, ◌+◌, List, [], ◌∷◌, ◌++◌, take, length, Option, Some, None, refl, ap, sym, subst, ◌∙◌, arith, append_assoc, min, map, drop, get_or, ◌<◌, suc, add-one}
+use Rattle.std.proofs.Common.{◌≡◌, ◌≤◌, ℕ, ◌+◌, List, [], ◌∷◌, ◌++◌, take, length, Option, Some, None, refl, ap, sym, subst, ◌∙◌, arith, append_assoc, min, map, drop, get_or, ◌<◌, suc, add-one, length-append}
 use Rattle.std.specs.List.{concat}
-use Rattle.std.specs.Option.{option_map}
 use Rattle.std.proofs.lemmas.List.{append-nil, take-append-le, take_min}
-use Rattle.std.proofs.Math.Seq.{drop-cons, take-add}
+use Rattle.std.proofs.Math.Seq.{drop-cons}
 use Rattle.std.proofs.lemmas.List.Folds.{concat-append}
 use Rattle.rx_value.specs.declared.values.Value.{Value}
-use Rattle.rx_outside.specs.Sink.{Takes, IsFront}
-use Rattle.rx_outside.specs.Causes.{Rose}
+use Rattle.rx_outside.specs.Sink.{Takes, LeavesRoom}
+use Rattle.rx_outside.proofs.Chains.{LeavesRoom-chain}
 use Rattle.rx_forms.specs.Step.{Step}
 use Rattle.rx_tool.specs.declared.settings.Settings.{Settings}
 use Rattle.rx_tool.specs.declared.engine.SelectFault.{SelectFault}
 use Rattle.rx_tool.specs.declared.engine.SelectFault.TheVariants.{ReadFault, WriteFault, Damaged, NoMemory}
 use Rattle.rx_store.specs.declared.tables.Counts.{Counts}
 use Rattle.rx_tool.specs.Blocks.{blocks_of_step, blocks_from, settings_after, counts_after, counts_after_step}
-use Rattle.rx_tool.specs.Running.{PutsAll, PutsSome, PutsFront, Stops, StopsUntold, RunsStep, RunsScript, StopsStep, StopsScript}
+use Rattle.rx_tool.specs.Running.{PutsSome, PutsFront, RunsStep, RunsScript, StopsStep, StopsScript, HasRoom, size_of, StepIsCalm, StepLeavesRoom, ScriptIsCalm}
 
 -- The blocks that were put and those that are to come are all.
 abbrev pub PutsSoFar : Option (List (List Value)) → Settings → List Step → Settings → List Step → Option (List ℕ) → Option (List ℕ) → Type 0
@@ -94,3 +93,49 @@ stops-after (Some rows) first now steps rest step a b c f g h NoMemory (done, ta
 pub counts-more : (n m : ℕ) (left rest whole : List Step) (step : Step) (a b c : Counts) → left ≡ step ∷ rest → counts_after n left b ≡ counts_after n whole a → m ≡ n → c ≡ counts_after_step m step b → counts_after n rest c ≡ counts_after n whole a
 counts-more n m left rest whole step a b c is so_far same counted =
     ap (counts_after n rest) (counted ∙ ap (λ k. counts_after_step k step b) same) ∙ ap (λ steps. counts_after n steps b) (sym is) ∙ so_far
+
+-- So many bytes were put; those that are to come and they are all; and where there was room for all, no put failed.
+abbrev pub RoomSoFar : Option (List (List Value)) → Settings → List Step → Settings → List Step → Option ℕ → Option ℕ → ℕ → ℕ → Type 0
+RoomSoFar None first steps now rest before after faults count = Unit {0}
+RoomSoFar (Some rows) first steps now rest before after faults count =
+    (spent : ℕ) × LeavesRoom before after spent × (spent + size_of (blocks_from now rest rows) ≡ size_of (blocks_from first steps rows))
+    × (HasRoom before (size_of (blocks_from first steps rows)) → count ≡ faults)
+
+leaves_all : (room : Option ℕ) → LeavesRoom room room 0
+leaves_all None = refl
+leaves_all (Some r) = (r, refl, omega arith)
+
+pub room-none : (told : Option (List (List Value))) (s : Settings) (steps : List Step) (room : Option ℕ) (faults : ℕ) → RoomSoFar told s steps s steps room room faults faults
+room-none None s steps room faults = tt
+room-none (Some rows) s steps room faults = (0, leaves_all room, omega arith, λ h. refl)
+
+size_of-append : (xs ys : List (List ℕ)) → size_of (xs ++ ys) ≡ size_of xs + size_of ys
+size_of-append xs ys = ap length (concat-append xs ys) ∙ length-append (concat xs) (concat ys)
+
+-- there is room for a step where there was room for all
+room_left : (before after : Option ℕ) (spent all here : ℕ) → LeavesRoom before after spent → spent + here ≤ all → HasRoom before all → HasRoom after here
+room_left before after spent all here left within (r, is, fits) =
+    let (s, now, sum) = subst (λ (o : Option ℕ). LeavesRoom o after spent) is left in
+    (s, now, omega (arith, sum, within, fits))
+
+pub room-stopped : (told : Option (List (List Value))) (first now : Settings) (steps rest : List Step) (step : Step) (a b : Option ℕ) (f g h : ℕ) → RoomSoFar told first steps now (step ∷ rest) a b f g → StepIsCalm told now step b g h → ScriptIsCalm told first steps a f h
+room-stopped None first now steps rest step a b f g h p q = tt
+room-stopped (Some rows) first now steps rest step a b f g h (spent, left, sum, calm) q =
+    let here = blocks_of_step now step rows in
+    let more = size_of-append here (blocks_from (settings_after now step) rest rows) in
+    λ room. q (room_left a b spent (size_of (blocks_from first steps rows)) (size_of here) left (omega (arith, sum, more)) room) ∙ calm room
+
+pub room-more : (told : Option (List (List Value))) (first now : Settings) (steps rest : List Step) (step : Step) (a b c : Option ℕ) (f g h : ℕ) → RoomSoFar told first steps now (step ∷ rest) a b f g → StepIsCalm told now step b g h → StepLeavesRoom told now step b c → RoomSoFar told first steps (settings_after now step) rest a c f h
+room-more None first now steps rest step a b c f g h p q l = tt
+room-more (Some rows) first now steps rest step a b c f g h (spent, left, sum, calm) q l =
+    let here = blocks_of_step now step rows in
+    let more = size_of-append here (blocks_from (settings_after now step) rest rows) in (
+      spent + size_of here,
+      LeavesRoom-chain a b c spent (size_of here) left l,
+      omega (arith, sum, more),
+      room-stopped (Some rows) first now steps rest step a b f g h (spent, left, sum, calm) q,
+    )
+
+pub room-all : (told : Option (List (List Value))) (first now : Settings) (steps : List Step) (a b : Option ℕ) (f g : ℕ) → RoomSoFar told first steps now [] a b f g → ScriptIsCalm told first steps a f g
+room-all None first now steps a b f g p = tt
+room-all (Some rows) first now steps a b f g (spent, left, sum, calm) = calm

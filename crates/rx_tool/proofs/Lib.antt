@@ -1,4 +1,5 @@
 mod Blocks
 mod Choice
+mod Owed
 pub mod Plain
 mod Scanning

@@ -1,5 +1,5 @@
 -- The ways to answer a query, their costs, the chosen one, and what it reads.
-use Rattle.std.specs.Prelude.{ℕ, zero, suc, ◌+◌, ◌*◌, ◌/◌, ◌<◌, ◌≤◌, Bool, false, List, [], ◌∷◌, length, map, slice_index, slice_index_or, nat_le, if◌then◌else◌}
+use Rattle.std.specs.Prelude.{ℕ, suc, ◌+◌, ◌*◌, ◌/◌, ◌<◌, ◌≤◌, false, List, [], ◌∷◌, length, map, slice_index, slice_index_or, nat_le, if◌then◌else◌}
 use Rattle.std.specs.List.{list_all}
 use Rattle.rx_value.specs.declared.values.Value.{Value}
 use Rattle.rx_store.specs.declared.tables.Counts.{Counts}

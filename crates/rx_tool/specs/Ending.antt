@@ -9,7 +9,9 @@ use Rattle.rx_tool.specs.Stops.{line_of, line_of_refusal}
 use Rattle.rx_tool.specs.Blocks.{blocks_of}
 use Rattle.rx_tool.specs.Running.{PutsSome, PutsFront}
 use Rattle.rx_tool.specs.Checked.{Checked, RefusesBy}
-use Rattle.rx_tool.specs.Output.{Inputs, TakesFrontOfText, TakesBlocks}
+use Rattle.rx_tool.specs.Output.{Inputs, TakesFrontOfText, TakesBlocks, IsAccepted}
+use Rattle.rx_tool.specs.declared.stops.Status.{Status}
+use Rattle.rx_tool.specs.declared.stops.Status.TheVariants as status
 
 -- why a run stops, and what it put by then: after a failed read or a refusal nothing; after a failed write a front of the
 -- text; where memory ran out whole blocks
@@ -65,3 +67,8 @@ EndsOutside owed f g o p e q before after err_before err_after =
     EndsReading f g before after err_before err_after
     ⊎ EndsWriting owed o p before after err_before err_after
     ⊎ EndsTelling owed f g o p e q before after err_before err_after
+
+-- Accepted inputs are done, or memory ran out, where no count of faults rose.
+abbrev pub IsComplete : Checked Inputs → (f g o p e q : ℕ) → Status → Type 0
+IsComplete owed f g o p e q result =
+    IsAccepted owed → (Rose f g → ⊥) → (Rose o p → ⊥) → (Rose e q → ⊥) → (result ≡ status.Done) ⊎ (result ≡ status.NoMemory)

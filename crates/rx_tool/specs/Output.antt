@@ -10,7 +10,7 @@ use Rattle.rx_forms.specs.Step.{Step}
 use Rattle.rx_tool.specs.declared.stops.Input.TheVariants as input
 use Rattle.rx_tool.specs.declared.stops.Refusal.TheVariants.{Words}
 use Rattle.rx_tool.specs.Blocks.{blocks_of, counts_after}
-use Rattle.rx_tool.specs.Running.{PutsAll, PutsSome, PutsFront}
+use Rattle.rx_tool.specs.Running.{PutsAll, PutsSome, PutsFront, HasRoom, size_of}
 use Rattle.rx_tool.specs.Checked.{Checked, and_then, checked_file}
 use Rattle.rx_tool.specs.Checked.Checked.{Accepts, Refuses, Untold}
 use Rattle.rx_tool.specs.Words.{Asks, command_of}
@@ -66,3 +66,15 @@ abbrev pub HandsBack : Checked Inputs → Stored → Type 0
 HandsBack (Accepts inputs) table = table ≡ table_after inputs
 HandsBack (Refuses refusal) table = ⊥
 HandsBack Untold table = Unit {0}
+
+-- the words and all inputs are told and accepted
+abbrev pub IsAccepted : Checked Inputs → Type 0
+IsAccepted (Accepts inputs) = Unit {0}
+IsAccepted (Refuses refusal) = ⊥
+IsAccepted Untold = ⊥
+
+-- there is room for the whole text; a refused input needs none
+abbrev pub HasRoomForText : Checked Inputs → Option ℕ → Type 0
+HasRoomForText (Accepts inputs) room = HasRoom room (size_of (blocks_of inputs.steps inputs.rows))
+HasRoomForText (Refuses refusal) room = Unit {0}
+HasRoomForText Untold room = ⊥

@@ -1,5 +1,5 @@
 -- Rows that were printed.
-use Rattle.std.specs.Prelude.{◌≡◌, ℕ, ◌+◌, List, ◌++◌, length, Option, Some, None}
+use Rattle.std.specs.Prelude.{◌≡◌, ◌+◌, List, ◌++◌, length, Option, Some, None}
 use Rattle.std.specs.List.{flat_map}
 use Rattle.rx_value.specs.declared.values.Value.{Value}
 use Rattle.rx_forms.specs.Step.{Asked}

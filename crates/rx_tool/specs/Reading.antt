@@ -1,5 +1,5 @@
 -- Reading and checking the files of a command.
-use Rattle.std.specs.Prelude.{◌≡◌, ℕ, Bool, List, map, IsTrue}
+use Rattle.std.specs.Prelude.{ℕ, Bool, List, map, IsTrue, Option, Some, None}
 use Rattle.rx_value.specs.Counting.{Rose}
 use Rattle.rx_forms.specs.declared.faults.FormFault.{FormFault}
 use Rattle.rx_forms.specs.declared.faults.FormFault.TheVariants as form
@@ -29,6 +29,11 @@ stop_of form.NoMemory input = NoMemory
 -- no read of the command's files can fail
 abbrev pub IsSure : (List ℕ → Bool) → Asks → Type 0
 IsSure sure (select schema data_file script) = IsTrue (sure schema) × IsTrue (sure data_file) × IsTrue (sure script)
+
+-- no read of the files that the words name can fail
+abbrev pub IsSureOf : (List ℕ → Bool) → Option Asks → Type 0
+IsSureOf sure None = Unit {0}
+IsSureOf sure (Some asks) = IsSure sure asks
 
 -- inputs of the code, with the steps of their script
 abbrev pub inputs : inputs_of_code → Inputs

@@ -1,9 +1,9 @@
 -- What the run of a script puts, whole or stopped.
-use Rattle.std.specs.Prelude.{◌≡◌, ℕ, List, take, Option, Some, None}
+use Rattle.std.specs.Prelude.{◌≡◌, ℕ, ◌≤◌, List, length, take, Option, Some, None}
 use Rattle.std.specs.List.{concat}
 use Rattle.rx_value.specs.declared.values.Value.{Value}
 use Rattle.rx_value.specs.Counting.{Rose}
-use Rattle.rx_outside.specs.Sink.{Takes, IsFront}
+use Rattle.rx_outside.specs.Sink.{Takes, IsFront, LeavesRoom}
 use Rattle.rx_forms.specs.Step.{Step}
 use Rattle.rx_tool.specs.declared.settings.Settings.{Settings}
 use Rattle.rx_tool.specs.declared.engine.SelectFault.{SelectFault}
@@ -51,3 +51,26 @@ StopsStep (Some rows) settings step before after faults now fault = Stops (block
 abbrev pub StopsScript : Option (List (List Value)) → Settings → List Step → Option (List ℕ) → Option (List ℕ) → ℕ → ℕ → SelectFault → Type 0
 StopsScript None settings steps before after faults now fault = StopsUntold faults now fault
 StopsScript (Some rows) settings steps before after faults now fault = Stops (blocks_from settings steps rows) before after faults now fault
+
+-- a sink has room for so many bytes
+abbrev pub HasRoom : Option ℕ → ℕ → Type 0
+HasRoom room n = (r : ℕ) × (room ≡ Some r) × (n ≤ r)
+
+-- how many bytes blocks have
+abbrev pub size_of : List (List ℕ) → ℕ
+size_of blocks = length (concat blocks)
+
+-- Where the rows are told and there is room for the step, no put fails.
+abbrev pub StepIsCalm : Option (List (List Value)) → Settings → Step → Option ℕ → ℕ → ℕ → Type 0
+StepIsCalm None settings step room faults now = Unit {0}
+StepIsCalm (Some rows) settings step room faults now = HasRoom room (size_of (blocks_of_step settings step rows)) → now ≡ faults
+
+-- Where the rows are told, the room falls by the bytes of the step.
+abbrev pub StepLeavesRoom : Option (List (List Value)) → Settings → Step → Option ℕ → Option ℕ → Type 0
+StepLeavesRoom None settings step before after = Unit {0}
+StepLeavesRoom (Some rows) settings step before after = LeavesRoom before after (size_of (blocks_of_step settings step rows))
+
+-- Where the rows are told and there is room for the script, no put fails.
+abbrev pub ScriptIsCalm : Option (List (List Value)) → Settings → List Step → Option ℕ → ℕ → ℕ → Type 0
+ScriptIsCalm None settings steps room faults now = Unit {0}
+ScriptIsCalm (Some rows) settings steps room faults now = HasRoom room (size_of (blocks_from settings steps rows)) → now ≡ faults

@@ -1,9 +1,9 @@
 -- What one SELECT puts.
-use Rattle.std.specs.Prelude.{◌≡◌, ℕ, ◌<◌, List, length, Option, Some, None}
+use Rattle.std.specs.Prelude.{◌≡◌, ℕ, ◌<◌, ◌≤◌, List, length, Option, Some, None}
 use Rattle.rx_value.specs.declared.values.Value.{Value}
 use Rattle.rx_store.specs.declared.tables.TableFault.{TableFault}
 use Rattle.rx_store.specs.declared.tables.TableFault.TheVariants as of_table
-use Rattle.rx_outside.specs.Sink.{Takes, IsFront}
+use Rattle.rx_outside.specs.Sink.{Takes, IsFront, LeavesRoom}
 use Rattle.rx_forms.specs.Step.{Asked}
 use Rattle.rx_tool.specs.declared.engine.SelectFault.{SelectFault}
 use Rattle.rx_tool.specs.declared.engine.SelectFault.TheVariants.{ReadFault, WriteFault, Damaged, NoMemory}
@@ -31,6 +31,16 @@ TakesBlock settings number q told before after = (text : List ℕ) × IsBlock se
 abbrev pub TakesFrontOfBlock : Settings → ℕ → Asked → Option (List (List Value)) → Option (List ℕ) → Option (List ℕ) → Type 0
 TakesFrontOfBlock settings number q told before after =
     (text : List ℕ) × (front : List ℕ) × IsBlock settings number q told text × IsFront front text × (length front < length text) × Takes before after front
+
+-- Where the rows are told and there is room for the block, no put fails.
+abbrev pub BlockIsCalm : Settings → ℕ → Asked → Option (List (List Value)) → Option ℕ → ℕ → ℕ → Type 0
+BlockIsCalm settings number q None room faults now = Unit {0}
+BlockIsCalm settings number q (Some rows) room faults now = (r : ℕ) → room ≡ Some r → length (block_for settings number q rows) ≤ r → now ≡ faults
+
+-- Where the rows are told, the room falls by the bytes of the block.
+abbrev pub BlockLeavesRoom : Settings → ℕ → Asked → Option (List (List Value)) → Option ℕ → Option ℕ → Type 0
+BlockLeavesRoom settings number q None before after = Unit {0}
+BlockLeavesRoom settings number q (Some rows) before after = LeavesRoom before after (length (block_for settings number q rows))
 
 -- nothing was put
 pub record Untouched {O : Type 0} (text : O → Option (List ℕ)) (faults : O → ℕ) (room : O → Option ℕ) (old new : O) : Type 0 where

@@ -1,5 +1,5 @@
 -- Why a run stops, the line and the status for it.
-use Rattle.std.specs.Prelude.{◌≡◌, ◌⊎◌, ℕ, ◌<◌, List, ◌++◌, length, codes, Option}
+use Rattle.std.specs.Prelude.{◌≡◌, ◌⊎◌, ℕ, List, ◌++◌, codes, Option}
 use Rattle.rx_value.specs.Counting.{Rose}
 use Rattle.rx_outside.specs.Sink.{Takes, IsFront}
 use Rattle.rx_tool.specs.declared.stops.Status.{Status}
@@ -35,6 +35,10 @@ line_of ReadFault = codes "failed: read\n"
 line_of WriteFault = codes "failed: write\n"
 line_of (Refused refusal) = line_of_refusal refusal
 line_of NoMemory = codes "out of memory\n"
+
+-- the bytes of the longest line
+abbrev pub longest_line : ℕ
+longest_line = 27
 
 abbrev pub status_of : Stop → Status
 status_of ReadFault = status.Outside

@@ -4,7 +4,7 @@ ghost use Rattle.rx_outside.specs.Causes.{Rose};
 ghost use Rattle.rx_outside.specs.Sink.{LeavesRoom};
 ghost use Rattle.rx_forms.specs.Step.{asked_of};
 ghost use Rattle.rx_tool.specs.Printed.{PrintsAnswer};
-ghost use Rattle.rx_tool.specs.Select.{IsBlock, IsAnswerOf, TakesBlock, TakesFrontOfBlock, Untouched, table_fault, select_fault};
+ghost use Rattle.rx_tool.specs.Select.{IsBlock, IsAnswerOf, TakesBlock, TakesFrontOfBlock, BlockIsCalm, BlockLeavesRoom, Untouched, table_fault, select_fault};
 ghost use Rattle.rx_tool.specs.Candidates.{visits, reads_of};
 ghost use Rattle.rx_tool.specs.Blocks.{trace_of};
 ghost use Rattle.rx_tool.specs.Plan.{IsPlan};
@@ -43,6 +43,8 @@ pub(crate) fn select<T: Table, O: Sink>(
     ensures cause { IfErr result (λ f. IfSome (table_fault f) (Caused T.faults T.damages T.flawed T.sure table.old table.new)) }
     ensures untouched { IfErr result (λ f. IfSome (table_fault f) (λ _. Untouched O.text O.faults O.room out.old out.new)) }
     ensures write { IsErrOf result SelectFault.WriteFault → Rose (O.faults out.old) (O.faults out.new) × TakesFrontOfBlock settings number (asked_of query.now) (T.told table.old) (O.text out.old) (O.text out.new) }
+    ensures calm { BlockIsCalm settings number (asked_of query.now) (T.told table.old) (O.room out.old) (O.faults out.old) (O.faults out.new) }
+    ensures room { OnOk result (BlockLeavesRoom settings number (asked_of query.now) (T.told table.old) (O.room out.old) (O.room out.new)) }
     ensures later { Later T.faults T.damages table.old table.new }
     ensures out_later { O.faults out.old ≤ O.faults out.new }
     ensures sure { T.sure table.old ≡ true → T.faults table.new ≡ T.faults table.old }

@@ -2,7 +2,7 @@ ghost use Rattle.std.specs.Prelude.{◌≡◌, ◌≢◌, ◌≤◌, ℕ, true, 
 ghost use Rattle.rx_store.specs.Tables.{Later, Caused, Keeps};
 ghost use Rattle.rx_forms.specs.Step.{step_of};
 ghost use Rattle.rx_tool.specs.Blocks.{first_settings, settings_after, counts_after, counts_after_step};
-ghost use Rattle.rx_tool.specs.Running.{RunsStep, RunsScript, StopsStep, StopsScript};
+ghost use Rattle.rx_tool.specs.Running.{RunsStep, RunsScript, StopsStep, StopsScript, StepIsCalm, StepLeavesRoom, ScriptIsCalm};
 ghost use Rattle.rx_tool.specs.Select.{table_fault};
 
 use crate::engine::{SelectFault, select};
@@ -24,6 +24,7 @@ pub(crate) fn run_script<T: Table, O: Sink>(
     ensures stopped { IfErr result (StopsScript (T.told table.old) first_settings (map step_of script.now) (O.text out.old) (O.text out.new) (O.faults out.old) (O.faults out.new)) }
     ensures cause { IfErr result (λ f. IfSome (table_fault f) (Caused T.faults T.damages T.flawed T.sure table.old table.new)) }
     ensures later { Later T.faults T.damages table.old table.new }
+    ensures calm { ScriptIsCalm (T.told table.old) first_settings (map step_of script.now) (O.room out.old) (O.faults out.old) (O.faults out.new) }
     ensures out_later { O.faults out.old ≤ O.faults out.new }
     ensures sure { T.sure table.old ≡ true → T.faults table.new ≡ T.faults table.old }
     ensures keeps { Keeps T.schema_of T.told T.row_count T.flawed T.sure T.kept table.old table.new }
@@ -53,6 +54,8 @@ fn run_statement<T: Table, O: Sink>(
     ensures stopped { IfErr result (StopsStep (T.told table.old) settings (step_of numbered.now) (O.text out.old) (O.text out.new) (O.faults out.old) (O.faults out.new)) }
     ensures cause { IfErr result (λ f. IfSome (table_fault f) (Caused T.faults T.damages T.flawed T.sure table.old table.new)) }
     ensures later { Later T.faults T.damages table.old table.new }
+    ensures calm { StepIsCalm (T.told table.old) settings (step_of numbered.now) (O.room out.old) (O.faults out.old) (O.faults out.new) }
+    ensures room { OnOk result (StepLeavesRoom (T.told table.old) settings (step_of numbered.now) (O.room out.old) (O.room out.new)) }
     ensures out_later { O.faults out.old ≤ O.faults out.new }
     ensures sure { T.sure table.old ≡ true → T.faults table.new ≡ T.faults table.old }
     ensures keeps { Keeps T.schema_of T.told T.row_count T.flawed T.sure T.kept table.old table.new }

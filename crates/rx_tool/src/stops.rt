@@ -1,6 +1,7 @@
 ghost use Rattle.std.specs.Prelude.{◌≡◌, ◌≤◌, OnErr};
 ghost use Rattle.rx_outside.specs.Sink.{Takes};
-ghost use Rattle.rx_tool.specs.Stops.{line_of_refusal, line_of, status_of, limit_of, Tells};
+ghost use Rattle.rx_tool.specs.Stops.{line_of_refusal, line_of, longest_line, status_of, limit_of, Tells};
+ghost use Rattle.rx_tool.specs.Running.{HasRoom};
 
 use rx_outside::{Sink, write_all};
 
@@ -97,6 +98,7 @@ impl Stop {
 /// Puts the line that says why a run stopped, and answers its status. A failed put makes it `Outside`.
 pub(crate) fn tell<E: Sink>(stop: Stop, err: &mut E) -> Status
     ensures told { Tells stop (E.text err.old) (E.text err.new) (E.faults err.old) (E.faults err.new) result }
+    ensures calm { HasRoom (E.room err.old) longest_line → E.faults err.new ≡ E.faults err.old }
     ensures later { E.faults err.old ≤ E.faults err.new }
 {
     match write_all(err, stop.line()) {

@@ -14,6 +14,28 @@ fn words_of(alloc: Global, words: &[&str]) -> Result<Vec<String>, AllocError> {
     Ok(all)
 }
 
+const SELECT: [&str; 4] = ["select", "schema", "data", "script"];
+
+// Files of these contents, whose call of this number fails.
+fn files_of(alloc: Global, texts: [&str; 3], failing: Option<u64>) -> Result<MemFiles, AllocError> {
+    let mut files = MemFiles::new(alloc);
+    for (name, text) in ["schema", "data", "script"].iter().zip(texts.iter()) {
+        files.add(name, text.as_bytes())?;
+    }
+    if let Some(call) = failing {
+        files.fail_at(call)?;
+    }
+    Ok(files)
+}
+
+// A sink that takes one byte per call, and fails at the call of this number.
+fn failing_sink(alloc: Global, call: u64) -> Result<MemSink, AllocError> {
+    let mut sink = MemSink::new(alloc, 4096)?;
+    sink.most(1);
+    sink.fail_at(call)?;
+    Ok(sink)
+}
+
 // Runs the words over files of these contents, and answers the status and what was put.
 fn ran(
     alloc: Global,
@@ -21,10 +43,7 @@ fn ran(
     texts: [&str; 3],
 ) -> Result<(Status, MemSink, MemSink), AllocError> {
     let words = words_of(alloc, words)?;
-    let mut files = MemFiles::new(alloc);
-    for (name, text) in ["schema", "data", "script"].iter().zip(texts.iter()) {
-        files.add(name, text.as_bytes())?;
-    }
+    let files = files_of(alloc, texts, None)?;
     let mut out = MemSink::new(alloc, 4096)?;
     let mut err = MemSink::new(alloc, 64)?;
     let ran = run(alloc, words.as_slice(), files, &mut out, &mut err);
@@ -102,7 +121,7 @@ fn puts_the_defined_text_or_line(rt: HostRuntime) -> Result<(), Fail> {
         ),
     ];
     for (texts, status, text, line) in rows {
-        let (ended, out, err) = ran(rt.alloc(), &["select", "schema", "data", "script"], texts)?;
+        let (ended, out, err) = ran(rt.alloc(), &SELECT, texts)?;
         assert_eq!(rt; ended, status, "{texts:?}");
         assert_eq!(rt; out.bytes(), text.as_bytes(), "{texts:?}");
         assert_eq!(rt; err.bytes(), line.as_bytes(), "{texts:?}");
@@ -129,14 +148,82 @@ fn refuses_words_and_misses_files(rt: HostRuntime) -> Result<(), Fail> {
 #[test]
 fn traces_the_table_scan(rt: HostRuntime) -> Result<(), Fail> {
     let script = "SET optimizer_trace='enabled=on';SELECT b FROM t WHERE a > 1";
-    let (ended, out, _) = ran(
-        rt.alloc(),
-        &["select", "schema", "data", "script"],
-        [SCHEMA, "a,b\n1,2\n3,4\n", script],
-    )?;
+    let (ended, out, _) = ran(rt.alloc(), &SELECT, [SCHEMA, "a,b\n1,2\n3,4\n", script])?;
     assert_eq!(rt; ended, Status::Done);
     let text =
         b"4\n\\. 1\n{\"chosen_range_access_summary\":{\"cost\":24,\"n\":1,\"type\":\"table_scan\"},\"range_analysis\":{\"analyzing_index_merge_union\":[],\"analyzing_roworder_intersect\":[],\"covering_index_scans\":[],\"group_index_range\":[],\"potential_range_indexes\":[],\"range_scan_alternatives\":[],\"skip_scan_range\":[],\"table_scan\":{\"cost\":24,\"index_only\":false,\"n\":1,\"rows\":2,\"scans\":[],\"type\":\"table_scan\"}},\"reads\":{\"dive_seeks\":0,\"entries\":0,\"rows\":2,\"seeks\":0},\"statement\":2}\n";
     assert_eq!(rt; out.bytes(), text.as_slice());
+    Ok(())
+}
+
+const ACCEPTED: [&str; 3] = [SCHEMA, "a,b\n1,2\n3,4\n", "SELECT b FROM t"];
+
+#[test]
+fn each_call_of_the_files_fails_in_turn(rt: HostRuntime) -> Result<(), Fail> {
+    let alloc = rt.alloc();
+    let words = words_of(alloc, &SELECT)?;
+    let mut failed = 0;
+    for call in 0..64 {
+        let files = files_of(alloc, ACCEPTED, Some(call))?;
+        let mut out = MemSink::new(alloc, 4096)?;
+        let mut err = MemSink::new(alloc, 64)?;
+        let ran = run(alloc, words.as_slice(), files, &mut out, &mut err);
+        if ran.status == Status::Done {
+            break;
+        }
+        failed = call + 1;
+        assert_eq!(rt; ran.status, Status::Outside);
+        assert_eq!(rt; out.bytes().len(), 0);
+        assert_eq!(rt; err.bytes(), b"failed: read\n".as_slice());
+    }
+    assert_eq!(rt; failed, 6);
+    Ok(())
+}
+
+#[test]
+fn each_put_of_the_output_fails_in_turn(rt: HostRuntime) -> Result<(), Fail> {
+    let alloc = rt.alloc();
+    let words = words_of(alloc, &SELECT)?;
+    let text = b"2\n4\n\\. 2\n";
+    let mut failed = 0;
+    for call in 0..64 {
+        let files = files_of(alloc, ACCEPTED, None)?;
+        let mut out = failing_sink(alloc, call)?;
+        let mut err = MemSink::new(alloc, 64)?;
+        let ran = run(alloc, words.as_slice(), files, &mut out, &mut err);
+        if ran.status == Status::Done {
+            break;
+        }
+        failed = call + 1;
+        assert_eq!(rt; ran.status, Status::Outside);
+        assert_eq!(rt; out.bytes().len() as u64, call);
+        assert!(rt; text.starts_with(out.bytes()));
+        assert_eq!(rt; err.bytes(), b"failed: write\n".as_slice());
+    }
+    assert_eq!(rt; failed, 9);
+    Ok(())
+}
+
+#[test]
+fn each_put_of_the_error_output_fails_in_turn(rt: HostRuntime) -> Result<(), Fail> {
+    let alloc = rt.alloc();
+    let words = words_of(alloc, &["select"])?;
+    let line = b"refused: words\n";
+    let mut failed = 0;
+    for call in 0..64 {
+        let files = files_of(alloc, ACCEPTED, None)?;
+        let mut out = MemSink::new(alloc, 4096)?;
+        let mut err = failing_sink(alloc, call)?;
+        let ran = run(alloc, words.as_slice(), files, &mut out, &mut err);
+        if ran.status == Status::Refused {
+            break;
+        }
+        failed = call + 1;
+        assert_eq!(rt; ran.status, Status::Outside);
+        assert_eq!(rt; out.bytes().len(), 0);
+        assert_eq!(rt; err.bytes().len() as u64, call);
+        assert!(rt; line.starts_with(err.bytes()));
+    }
+    assert_eq!(rt; failed, 15);
     Ok(())
 }

@@ -1,10 +1,13 @@
 ghost use Rattle.std.specs.Prelude.{◌≡◌, ◌≢◌, ◌≤◌, ℕ, None, IsSomeAnd, IfOk, IfErr, OnOk, map, string_bytes};
 ghost use Rattle.rx_outside.specs.Files.{KeepsFiles};
-ghost use Rattle.rx_tool.specs.Output.{output, TakesText, HandsBack};
-ghost use Rattle.rx_tool.specs.Ending.{StopsRun, StopsScriptRun, EndsRefused, EndsOutside, EndsWithoutMemory};
+ghost use Rattle.rx_tool.specs.Output.{output, TakesText, HandsBack, HasRoomForText};
+ghost use Rattle.rx_tool.specs.Running.{HasRoom};
+ghost use Rattle.rx_tool.specs.Stops.{longest_line};
+ghost use Rattle.rx_tool.specs.Words.{command_of};
+ghost use Rattle.rx_tool.specs.Ending.{StopsRun, StopsScriptRun, EndsRefused, EndsOutside, EndsWithoutMemory, IsComplete};
 ghost use Rattle.rx_store.specs.Stored.{IsStorable};
 ghost use Rattle.rx_tool.specs.Checked.Checked.{Accepts};
-ghost use Rattle.rx_tool.specs.Reading.{inputs};
+ghost use Rattle.rx_tool.specs.Reading.{inputs, IsSureOf};
 
 use crate::engine::SelectFault;
 use crate::inputs::{Inputs, read_inputs};
@@ -48,6 +51,13 @@ pub fn run<F: Files, O: Sink, E: Sink>(
     ensures no_first { result.status ≢ Status.Done → result.first ≡ None }
     ensures no_second { result.second ≡ None }
 
+    // Accepted inputs are done or memory ran out, unless a count of faults rose; and none rises where no read can
+    // fail and there is room for the text and the line.
+    ensures complete { IsComplete (output (map string_bytes words.now) (F.told files)) (F.faults files) (F.faults result.files) (O.faults out.old) (O.faults out.new) (E.faults err.old) (E.faults err.new) result.status }
+    ensures sure { IsSureOf (F.sure files) (command_of (map string_bytes words.now)) → F.faults result.files ≡ F.faults files }
+    ensures calm { HasRoomForText (output (map string_bytes words.now) (F.told files)) (O.room out.old) → O.faults out.new ≡ O.faults out.old }
+    ensures err_calm { HasRoom (E.room err.old) longest_line → E.faults err.new ≡ E.faults err.old }
+
     // The files stay as they were, and no count of faults falls.
     ensures keeps { KeepsFiles F.told F.sure F.room files result.files }
     ensures later { F.faults files ≤ F.faults result.files }
@@ -84,6 +94,8 @@ fn work<F: Files, O: Sink>(
     ensures text { OnOk result (TakesText (output (map string_bytes words.now) (F.told files.old)) (O.text out.old) (O.text out.new)) }
     ensures table { IfOk result (HandsBack (output (map string_bytes words.now) (F.told files.old))) }
     ensures stopped { IfErr result (StopsRun (output (map string_bytes words.now) (F.told files.old)) (F.faults files.old) (F.faults files.new) (O.faults out.old) (O.faults out.new) (O.text out.old) (O.text out.new)) }
+    ensures sure { IsSureOf (F.sure files.old) (command_of (map string_bytes words.now)) → F.faults files.new ≡ F.faults files.old }
+    ensures calm { HasRoomForText (output (map string_bytes words.now) (F.told files.old)) (O.room out.old) → O.faults out.new ≡ O.faults out.old }
     ensures keeps { KeepsFiles F.told F.sure F.room files.old files.new }
     ensures later { F.faults files.old ≤ F.faults files.new }
     ensures out_later { O.faults out.old ≤ O.faults out.new }
@@ -104,6 +116,7 @@ fn run_inputs<O: Sink>(alloc: Global, read: Inputs, out: &mut O) -> Result<MemTa
     ensures text { OnOk result (TakesText (Accepts (inputs read)) (O.text out.old) (O.text out.new)) }
     ensures table { IfOk result (HandsBack (Accepts (inputs read))) }
     ensures stopped { IfErr result (StopsScriptRun (inputs read) (O.faults out.old) (O.faults out.new) (O.text out.old) (O.text out.new)) }
+    ensures calm { HasRoomForText (Accepts (inputs read)) (O.room out.old) → O.faults out.new ≡ O.faults out.old }
     ensures out_later { O.faults out.old ≤ O.faults out.new }
 {
     let Inputs {
