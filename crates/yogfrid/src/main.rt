@@ -1,16 +1,14 @@
 //! The command line program: it carries out its words by the system's files and streams.
 #![tactic(auto)]
 
-mod real;
-
-use real::{RealFiles, RealSink};
+use rx_real::{RealErr, RealFiles, RealOut};
 use rx_tool::run;
 use std::process::ExitCode;
 
 fn main(rt: HostRuntime) -> ExitCode {
     let alloc = rt.alloc();
-    let mut out = RealSink::new(rt.stdout());
-    let mut err = RealSink::new(rt.stderr());
+    let mut out = RealOut::new(rt.stdout());
+    let mut err = RealErr::new(rt.stderr());
     let Ok(words) = std::env::args(&rt) else {
         return ExitCode::from(3);
     };
