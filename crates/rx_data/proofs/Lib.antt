@@ -1,0 +1,7 @@
+pub mod Fits
+pub mod Function
+pub mod Numbers
+pub mod Ranges
+pub mod Steps
+pub mod Utf8
+pub mod Whole

@@ -1,0 +1,4 @@
+pub mod Fields
+pub mod Outcomes
+pub mod Records
+pub mod Rows
