@@ -1,0 +1,36 @@
+use Rattle.std.proofs.Common.{◌+◌, ◌*◌, length, map, codes}
+use Rattle.rx_where.specs.Raw.{raw_tree_of}
+use Rattle.rx_where.specs.Reading.{after_word}
+use Rattle.rx_where.specs.Conditions.{neg_at, conj_at}
+use Rattle.rx_where.proofs.More.{Goes}
+use Rattle.rx_where.proofs.conditions.+cond.Given as goal
+
+abbrev pub decreases-neg_at : goal.decreases-neg_at
+decreases-neg_at l = 8 * l.levels + 1
+
+abbrev pub decreases-conj_at : goal.decreases-conj_at
+decreases-conj_at l = 8 * l.levels + 2
+
+abbrev pub decreases-cond_at : goal.decreases-cond_at
+decreases-cond_at l = 8 * l.levels + 3
+
+abbrev pub decreases-not_at : goal.decreases-not_at
+decreases-not_at l = 8 * l.levels + 4
+
+abbrev pub decreases-parens_at : goal.decreases-parens_at
+decreases-parens_at l = 8 * l.levels + 4
+
+abbrev pub decreases-nest : goal.decreases-nest
+decreases-nest l = 8 * l.levels + 5
+
+abbrev pub invariant-cond_at-disjuncts : goal.invariant-cond_at-disjuncts
+invariant-cond_at-disjuncts l = Goes (after_word (codes "OR")) (conj_at (neg_at l.levels)) l.tokens (map raw_tree_of l.items.items) l.rest
+
+abbrev pub decreases-cond_at-disjuncts : goal.decreases-cond_at-disjuncts
+decreases-cond_at-disjuncts l = length l.rest
+
+abbrev pub invariant-conj_at-conjuncts : goal.invariant-conj_at-conjuncts
+invariant-conj_at-conjuncts l = Goes (after_word (codes "AND")) (neg_at l.levels) l.tokens (map raw_tree_of l.items.items) l.rest
+
+abbrev pub decreases-conj_at-conjuncts : goal.decreases-conj_at-conjuncts
+decreases-conj_at-conjuncts l = length l.rest

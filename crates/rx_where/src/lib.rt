@@ -1,0 +1,18 @@
+//! Conditions as they are read, with names in place of column numbers.
+#![tactic(auto)]
+
+mod conditions;
+mod kinds;
+mod names;
+mod operands;
+mod raw;
+mod reading;
+mod resolving;
+mod rows;
+mod single;
+#[cfg(test)]
+mod tests;
+
+pub use conditions::{ParseFault, parse};
+pub use raw::{RawCond, RawOperand};
+pub use resolving::{ResolveFault, resolve};
