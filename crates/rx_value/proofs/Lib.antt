@@ -1,2 +1,4 @@
+pub mod Meeting
+pub mod Ends
 pub mod Equal
 mod Points

@@ -2,3 +2,4 @@ pub mod Counting
 pub mod Order
 pub mod Range
 pub mod Shape
+pub mod Spans

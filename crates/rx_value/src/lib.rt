@@ -5,6 +5,9 @@ mod lists;
 mod order;
 mod ranges;
 mod shapes;
+mod spans;
+#[cfg(test)]
+mod tests;
 mod values;
 
 pub use lists::{
@@ -13,4 +16,5 @@ pub use lists::{
 pub use order::{End, Side, Span, compare_ends};
 pub use ranges::{Bound, Group, GroupList, KeyRange, RangeList, Rest, SpanList};
 pub use shapes::{ColType, Column, ColumnList, Index, IndexList, Part, PartList, Schema};
+pub use spans::{ends_are_ordered, meet, touches};
 pub use values::{Value, compare};
