@@ -1,0 +1,5 @@
+pub mod Farther
+pub mod More
+pub mod Spelled
+pub mod Steps
+pub mod Whole

@@ -1,0 +1,50 @@
+-- Forms of a grammar: which tokens spell them, and which come behind.
+use Rattle.std.specs.Prelude.{◌≡◌, ℕ, true, List, [], ◌∷◌}
+use Rattle.rx_token.specs.declared.kinds.Token.{Token}
+use Rattle.rx_token.specs.Reserved.{is_word_of}
+use Rattle.rx_reading.specs.Reading.{is_sign_kind, is_name, is_text_kind}
+
+-- the tokens that begin with a form, and those behind it
+abbrev pub Form : Type 1
+Form = List Token → List Token → Type 0
+
+-- one token that fits
+abbrev pub One : (Token → Type 0) → Form
+One fits [] rest = ⊥
+One fits (t ∷ ts) rest = fits t × (ts ≡ rest)
+
+-- a form, and another behind it
+infixr 10 ◌>>◌
+abbrev pub ◌>>◌ : Form → Form → Form
+f >> g = λ ts rest. (mid : List Token) × f ts mid × g mid rest
+
+-- this word without quotes, in any ASCII case
+abbrev pub Word : List ℕ → Form
+Word word = One (λ t. is_word_of word t ≡ true)
+
+-- the sign of this number
+abbrev pub Sign : ℕ → Form
+Sign sign = One (λ t. is_sign_kind sign t.kind ≡ true)
+
+-- this name, between backquotes or a word that isn't reserved
+abbrev pub Name : List ℕ → Form
+Name name = One (λ t. (is_name t ≡ true) × (t.text ≡ name))
+
+-- this text between quotes
+abbrev pub Text : List ℕ → Form
+Text text = One (λ t. (is_text_kind t.kind ≡ true) × (t.text ≡ text))
+
+-- item {separator item}
+pub data Listed (A : Type 0) : Type 0 where
+  last : A → Listed A
+  before : A → Listed A → Listed A
+
+-- what the items stand for, in order
+abbrev pub values : {A B : Type 0} → (A → B) → Listed A → List B
+values f (last a) = f a ∷ []
+values f (before a others) = f a ∷ values f others
+
+-- the items, and a separator between any two
+abbrev pub SpellsListed : {A : Type 0} → Form → (A → Form) → Listed A → Form
+SpellsListed separator item (last a) = item a
+SpellsListed separator item (before a others) = item a >> separator >> SpellsListed separator item others

@@ -1,0 +1,87 @@
+-- Reading tokens from left to right.
+use Rattle.std.specs.Prelude.{ℕ, zero, suc, Bool, true, false, not, List, [], ◌∷◌, length, Option, Some, None, ◌==◌, if◌then◌else◌}
+use Rattle.std.specs.Option.{option_and_then}
+use Rattle.rx_token.specs.declared.kinds.Token.{Token}
+use Rattle.rx_token.specs.declared.kinds.TokenKind.{TokenKind}
+use Rattle.rx_token.specs.declared.kinds.TokenKind.TheVariants.{Word, Quoted, Number, Str, Sign}
+use Rattle.rx_token.specs.declared.signs.TheConstants.{SEMICOLON}
+use Rattle.rx_token.specs.Reserved.{is_word_kind, is_word_of, is_reserved}
+
+-- what is read at the front, and the tokens behind it
+abbrev pub Reader : Type 0 → Type 0
+Reader A = List Token → Option (A × List Token)
+
+-- a step, and where it gives something the next
+infixl 10 ◌>>=◌
+abbrev pub ◌>>=◌ : {A B : Type 0} → Option A → (A → Option B) → Option B
+o >>= f = option_and_then f o
+
+-- the tokens behind a word
+abbrev pub after_word : List ℕ → List Token → Option (List Token)
+after_word word [] = None
+after_word word (t ∷ ts) = if is_word_of word t then Some ts else None
+
+-- a sign's number
+abbrev pub is_sign_kind : ℕ → TokenKind → Bool
+is_sign_kind sign Word = false
+is_sign_kind sign Quoted = false
+is_sign_kind sign (Number n) = false
+is_sign_kind sign Str = false
+is_sign_kind sign (Sign n) = n == sign
+
+-- the tokens behind a sign
+abbrev pub after_sign : ℕ → List Token → Option (List Token)
+after_sign sign [] = None
+after_sign sign (t ∷ ts) = if is_sign_kind sign t.kind then Some ts else None
+
+-- any word, a reserved one too
+abbrev pub word_at : Reader (List ℕ)
+word_at [] = None
+word_at (t ∷ ts) = if is_word_kind t.kind then Some (t.text, ts) else None
+
+-- a name between backquotes, or a word that isn't reserved
+abbrev pub is_name : Token → Bool
+is_name t = elim t.kind [ Word ↦ not (is_reserved t.text) | Quoted ↦ true | _ ↦ false ]
+
+-- a name
+abbrev pub name_at : Reader (List ℕ)
+name_at [] = None
+name_at (t ∷ ts) = if is_name t then Some (t.text, ts) else None
+
+-- a text between quotes
+abbrev pub is_text_kind : TokenKind → Bool
+is_text_kind Word = false
+is_text_kind Quoted = false
+is_text_kind (Number n) = false
+is_text_kind Str = true
+is_text_kind (Sign n) = false
+
+-- a text
+abbrev pub text_at : Reader (List ℕ)
+text_at [] = None
+text_at (t ∷ ts) = if is_text_kind t.kind then Some (t.text, ts) else None
+
+-- nothing comes any more, or one semicolon
+abbrev pub is_end : List Token → Bool
+is_end [] = true
+is_end (t ∷ []) = is_sign_kind SEMICOLON t.kind
+is_end _ = false
+
+-- one item more, or none
+abbrev pub next_of : {A : Type 0} → List Token → (List Token → List A × List Token) → Option (A × List Token) → List A × List Token
+next_of here others None = ([], here)
+next_of here others (Some x) = (x.0 ∷ (others x.1).0, (others x.1).1)
+
+-- a separator and an item as often as they come, at most so many times
+unfoldable pub more_at : {A : Type 0} → (List Token → Option (List Token)) → Reader A → ℕ → List Token → List A × List Token
+more_at after item zero ts = ([], ts)
+more_at after item (suc most) ts = next_of ts (more_at after item most) (after ts >>= item)
+
+-- An item, and a separator and an item as often as they come: more often than there are tokens they can't.
+unfoldable pub items_at : {A : Type 0} → (List Token → Option (List Token)) → Reader A → Reader (List A)
+items_at after item ts = item ts >>= λ x. Some (x.0 ∷ (more_at after item (length x.1) x.1).0, (more_at after item (length x.1) x.1).1)
+
+-- what tokens give, where they are all of the text
+abbrev pub of_whole : {A : Type 0} → (List Token → Option A) → List Token → Option ℕ → Option A
+of_whole read ts None = read ts
+of_whole read ts (Some place) = None

@@ -1,0 +1,113 @@
+ghost use Rattle.std.specs.Prelude.{◌≡◌, ◌<◌, length, IfSome};
+ghost use Rattle.std.specs.Option.{option_map};
+ghost use Rattle.rx_reading.specs.Reading.{after_word, is_sign_kind, after_sign, is_text_kind, is_name, name_at, text_at, word_at, is_end};
+
+use rx_token::{Token, TokenKind, is_reserved, is_word, signs};
+
+/// The tokens behind a word, which is compared without ASCII case and has no quotes.
+pub fn after_word<'a>(tokens: &'a [Token], word: &[u8]) -> Option<&'a [Token]>
+    ensures value { option_map (λ rest. rest.now) result ≡ after_word word.now tokens.now }
+    ensures shorter { IfSome result (λ rest. length rest.now < length tokens.now) }
+{
+    let [token, rest @ ..] = tokens else {
+        return None;
+    };
+    if is_word(token, word) {
+        Some(rest)
+    } else {
+        None
+    }
+}
+
+fn is_sign_kind(kind: TokenKind, sign: u8) -> bool
+    ensures { result ≡ is_sign_kind sign kind }
+{
+    match kind {
+        TokenKind::Sign(number) => number == sign,
+        _ => false,
+    }
+}
+
+/// The tokens behind a sign, by its number in `rx_token::signs`.
+pub fn after_sign(tokens: &[Token], sign: u8) -> Option<&[Token]>
+    ensures value { option_map (λ rest. rest.now) result ≡ after_sign sign tokens.now }
+    ensures shorter { IfSome result (λ rest. length rest.now < length tokens.now) }
+{
+    let [token, rest @ ..] = tokens else {
+        return None;
+    };
+    if is_sign_kind(token.kind, sign) {
+        Some(rest)
+    } else {
+        None
+    }
+}
+
+/// Any word at the front, a reserved one too, and the tokens behind it.
+pub fn word_at(tokens: &[Token]) -> Option<(&[u8], &[Token])>
+    ensures value { option_map (λ x. (x.0.now, x.1.now)) result ≡ word_at tokens.now }
+    ensures shorter { IfSome result (λ x. length x.1.now < length tokens.now) }
+{
+    let [token, rest @ ..] = tokens else {
+        return None;
+    };
+    if matches!(token.kind, TokenKind::Word) {
+        return Some((token.text.as_slice(), rest));
+    }
+    None
+}
+
+fn is_name(token: &Token) -> bool
+    ensures { result ≡ is_name token.now }
+{
+    match token.kind {
+        TokenKind::Word => !is_reserved(token.text.as_slice()),
+        TokenKind::Quoted => true,
+        _ => false,
+    }
+}
+
+/// A name at the front, between backquotes or a word that isn't reserved, and the tokens behind it.
+pub fn name_at(tokens: &[Token]) -> Option<(&[u8], &[Token])>
+    ensures value { option_map (λ x. (x.0.now, x.1.now)) result ≡ name_at tokens.now }
+    ensures shorter { IfSome result (λ x. length x.1.now < length tokens.now) }
+{
+    let [token, rest @ ..] = tokens else {
+        return None;
+    };
+    if is_name(token) {
+        return Some((token.text.as_slice(), rest));
+    }
+    None
+}
+
+fn is_text_kind(kind: TokenKind) -> bool
+    ensures { result ≡ is_text_kind kind }
+{
+    matches!(kind, TokenKind::Str)
+}
+
+/// A text between quotes at the front, decoded, and the tokens behind it.
+pub fn text_at(tokens: &[Token]) -> Option<(&[u8], &[Token])>
+    ensures value { option_map (λ x. (x.0.now, x.1.now)) result ≡ text_at tokens.now }
+    ensures shorter { IfSome result (λ x. length x.1.now < length tokens.now) }
+{
+    let [token, rest @ ..] = tokens else {
+        return None;
+    };
+    if is_text_kind(token.kind) {
+        return Some((token.text.as_slice(), rest));
+    }
+    None
+}
+
+/// Whether nothing comes any more, or one semicolon.
+pub fn is_end(tokens: &[Token]) -> bool
+    ensures { result ≡ is_end tokens.now }
+{
+    match tokens {
+        [] => true,
+        [token] => is_sign_kind(token.kind, signs::SEMICOLON),
+        _ => false,
+    }
+}
