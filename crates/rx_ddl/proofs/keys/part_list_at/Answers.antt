@@ -1,0 +1,27 @@
+use Rattle.rx_token.specs.declared.signs.TheConstants.{COMMA}
+use Rattle.rx_reading.specs.Reading.{after_sign}
+use Rattle.rx_reading.proofs.More.{nothing, begins, goes_on, ends_before, ends_after}
+use Rattle.rx_ddl.specs.Keys.{part_at}
+use Rattle.rx_ddl.proofs.keys.part_list_at.Goals as goal
+
+pub returns-in_default-clause-value : goal.returns-in_default-clause-value
+returns-in_default-clause-value c = nothing (after_sign COMMA) part_at _ (rw c.in_default.is at c.in_ok-first.ensures.value)
+
+pub parts-init : goal.parts-init
+parts-init c =
+    let read = rw c.in-Some.is at c.in_ok-first.ensures.value in
+    let shorter = rw c.in-Some.is at c.in_ok-first.ensures.shorter in
+    rw (c.in_ok-push.ensures.ok, c.new-items.ensures) (begins (after_sign COMMA) part_at _ _ _ read shorter)
+
+pub returns-in_default-after_sign-clause-value : goal.returns-in_default-after_sign-clause-value
+returns-in_default-after_sign-clause-value c = ends_before (after_sign COMMA) part_at _ _ _ c.parts.invariant c.in_default-after_sign.ensures.value
+
+pub returns-in_default-2-clause-value : goal.returns-in_default-2-clause-value
+returns-in_default-2-clause-value c =
+    ends_after (after_sign COMMA) part_at _ _ _ _ c.parts.invariant c.in-Some-after_sign.ensures.value (rw c.in_default-2.is at c.in_ok-next.ensures.value)
+
+pub parts-preserved : goal.parts-preserved
+parts-preserved c =
+    let read = rw c.in-Some-2.is at c.in_ok-next.ensures.value in
+    let shorter = rw c.in-Some-2.is at c.in_ok-next.ensures.shorter in
+    rw c.in_ok-push-2.ensures.ok (goes_on (after_sign COMMA) part_at _ _ _ _ _ _ c.parts.invariant c.in-Some-after_sign.ensures.value c.in-Some-after_sign.ensures.shorter read shorter)

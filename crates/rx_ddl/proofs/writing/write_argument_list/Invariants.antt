@@ -1,0 +1,7 @@
+use Rattle.std.proofs.Common.{◌≡◌, ◌++◌, take, codes}
+use Rattle.std.specs.List.{flat_map}
+use Rattle.rx_ddl.specs.Canonical.{argument_text}
+use Rattle.rx_ddl.proofs.writing.write_argument_list.Given as goal
+
+abbrev pub invariant-loop-other : goal.invariant-loop-other
+invariant-loop-other l = l.into ≡ l.initial.into ++ flat_map (λ other. codes "," ++ argument_text other) (take l.other-index l.others)

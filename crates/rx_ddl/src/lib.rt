@@ -1,0 +1,22 @@
+//! CREATE TABLE statements as they are written.
+#![tactic(auto)]
+
+mod attributes;
+mod columns;
+mod faults;
+mod keys;
+mod options;
+mod reading;
+mod statements;
+#[cfg(test)]
+mod tests;
+mod writing;
+
+pub use faults::CreateFault;
+pub use reading::read_create;
+pub use statements::{
+    Argument, ArgumentList, Attribute, AttributeList, ColumnDefinition, CreateDefinition,
+    CreateTable, DefinitionList, KeyDefinition, KeyKind, KeyPart, KeyPartList, OptionList,
+    TableOption,
+};
+pub use writing::{reads_what_is_written, write_create};
