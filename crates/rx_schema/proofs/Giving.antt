@@ -1,0 +1,277 @@
+-- What is read is a schema within the limits.
+use Rattle.std.proofs.Common.{◌≡◌, ℕ, ◌≤◌, Bool, true, false, cond, not, ◌&&◌, List, [], ◌∷◌, ◌++◌, length, map, drop, Option, Some, None, refl, sym, ap, subst, ◌∙◌, inl, inr, arith}
+use Rattle.std.specs.Prelude.{All, filter, find, IfSome, IfOk, Result, Ok, Err}
+use Rattle.std.specs.List.{AllByRecursion, list_any}
+use Rattle.std.proofs.lemmas.Bool.{cond_both, cases_Bool, not-false, not-true}
+use Rattle.std.proofs.lemmas.List.{length-map}
+use Rattle.std.proofs.lemmas.List.Elements.{filter-append}
+use Rattle.rx_value.specs.declared.shapes.ColType.{ColType}
+use Rattle.rx_value.specs.declared.shapes.ColType.TheVariants.{Whole, VarChar}
+use Rattle.rx_value.specs.declared.shapes.Schema.{Schema}
+use Rattle.rx_value.specs.Shape.{FitsIndex, IsSchema}
+use Rattle.rx_ddl.specs.declared.statements.ColumnDefinition.{ColumnDefinition}
+use Rattle.rx_ddl.specs.declared.statements.KeyDefinition.{KeyDefinition}
+use Rattle.rx_ddl.specs.declared.statements.CreateDefinition.{CreateDefinition}
+use Rattle.rx_ddl.specs.declared.statements.CreateDefinition.TheVariants.{Column, Key}
+use Rattle.rx_ddl.specs.declared.statements.CreateTable.{CreateTable}
+use Rattle.rx_ddl.specs.Canonical.{IsName}
+use Rattle.rx_ddl.specs.Create.{is_column, create_form}
+use Rattle.rx_schema.specs.declared.faults.SchemaFault.{SchemaFault}
+use Rattle.rx_schema.specs.Given.{first_given, columns_in, keys_in}
+use Rattle.rx_schema.specs.Limits.{is_primary, has_many_parts}
+use Rattle.rx_schema.specs.Names.{column_names, part_names, primary_name, index_name, further_keys, index_names, is_among, first_repeated, first_duplicate, is_missing, first_unknown}
+use Rattle.rx_schema.specs.Columns.{declared_column, declared_columns}
+use Rattle.rx_schema.specs.Indexes.{declared_part, declared_index, is_of, keys_by_number, declared_indexes}
+use Rattle.rx_schema.specs.Outcomes.{Answers}
+use Rattle.rx_schema.specs.Schema.{declared, name_refusal, refusal, unless_refused, schema_of, outcome_of, read_of}
+use Rattle.rx_schema.specs.Tables.{IsSize, size_8, size_16, size_24, size_32, size_64, IsSized, IsKind, IsTypedColumn, IsWholePart, IsNamedIndex, names_of, index_names_of, IsGiven}
+use Rattle.rx_schema.proofs.Every.{every_map, every_both, every_of, of_every, every_append, every_filter, every_passes, to_all, none_given, or_none, map_none, every_column, every_key, none_pass, every_any, filter_all, filter_none, filter_of, map_same, map_both}
+use Rattle.rx_schema.proofs.Fitting.{IsSoundKey, fits}
+use Rattle.rx_schema.proofs.Grammar.{IsNamedKey, IsNamedItem, IsNamedTable, primary_named, named_table}
+use Rattle.rx_schema.proofs.Typing.{column_kind}
+use Rattle.rx_schema.proofs.Places.{members}
+use Rattle.rx_schema.proofs.Repeats.{same, apart_from}
+use Rattle.rx_schema.proofs.Within.{neither, IsWithin, within}
+
+-- nothing refuses a statement
+record IsAccepted (items : List CreateDefinition) : Type 0 where
+  pub limits : IsWithin items
+  pub columns : first_repeated (column_names items) ≡ None
+  pub indexes : first_repeated (index_names items) ≡ None
+  pub parts : first_given (λ key. first_repeated (part_names key)) (keys_in items) ≡ None
+  pub known : first_given (λ key. find (is_missing (column_names items)) (part_names key)) (keys_in items) ≡ None
+
+accepted : (create : CreateTable) → refusal create ≡ None → IsAccepted create.definitions
+unfolding refusal name_refusal first_duplicate first_unknown
+accepted create e =
+    let first = or_none _ _ e in
+    let second = or_none _ _ first.1 in
+    let third = or_none _ _ second.1 in
+    let names = or_none _ _ (map_none _ _ third.0) in
+    let others = or_none _ _ names.1 in
+    record {
+      limits = within create.definitions (map_none _ _ second.0);
+      columns = names.0;
+      indexes = others.0;
+      parts = others.1;
+      known = map_none _ _ third.1;
+    }
+
+none_missing : (names ns : List (List ℕ)) → find (is_missing names) ns ≡ None → AllByRecursion (λ n. is_among names n ≡ true) ns
+none_missing names [] e = tt
+none_missing names (n ∷ ns) e =
+    let first = neither (is_missing names n) n (find (is_missing names) ns) e in
+    (not-false (is_among names n) first.0, none_missing names ns first.1)
+
+sound : (items : List CreateDefinition) (key : KeyDefinition) → IsNamedKey key → has_many_parts key ≡ false → first_repeated (part_names key) ≡ None → find (is_missing (column_names items)) (part_names key) ≡ None → ((test : KeyDefinition → Bool) → test key ≡ true → list_any test (keys_in items) ≡ true) → IsSoundKey items key
+sound items key named few apart known member = record {
+  some = named.some;
+  few = few;
+  apart = (apart_from [] (part_names key) apart).1;
+  known = none_missing (column_names items) (part_names key) known;
+  member = λ n e. member (λ k. is_primary k && is_among (part_names k) n) e;
+}
+
+-- facts of each key, one after another
+abbrev Sound_by : List CreateDefinition → KeyDefinition → Type 0
+Sound_by items key = has_many_parts key ≡ false → first_repeated (part_names key) ≡ None → find (is_missing (column_names items)) (part_names key) ≡ None → ((test : KeyDefinition → Bool) → test key ≡ true → list_any test (keys_in items) ≡ true) → IsSoundKey items key
+
+all_sound : (items : List CreateDefinition) → IsAccepted items → AllByRecursion IsNamedKey (keys_in items) → AllByRecursion (IsSoundKey items) (keys_in items)
+all_sound items is named =
+    let Few : KeyDefinition → Type 0 = λ k. has_many_parts k ≡ false in
+    let Once : KeyDefinition → Type 0 = λ k. first_repeated (part_names k) ≡ None in
+    let Known : KeyDefinition → Type 0 = λ k. find (is_missing (column_names items)) (part_names k) ≡ None in
+    let Member : KeyDefinition → Type 0 = λ k. (test : KeyDefinition → Bool) → test k ≡ true → list_any test (keys_in items) ≡ true in
+    let start = every_both IsNamedKey Few (λ k. Once k → Known k → Member k → IsSoundKey items k) (λ k n f o u m. sound items k n f o u m) (keys_in items) named (none_pass has_many_parts (keys_in items) is.limits.parts) in
+    let next = every_both (λ k. Once k → Known k → Member k → IsSoundKey items k) Once (λ k. Known k → Member k → IsSoundKey items k) (λ k g. g) (keys_in items) start (none_given (λ key. first_repeated (part_names key)) (keys_in items) is.parts) in
+    let later = every_both (λ k. Known k → Member k → IsSoundKey items k) Known (λ k. Member k → IsSoundKey items k) (λ k g. g) (keys_in items) next (none_given (λ key. find (is_missing (column_names items)) (part_names key)) (keys_in items) is.known) in
+    every_both (λ k. Member k → IsSoundKey items k) Member (IsSoundKey items) (λ k g. g) (keys_in items) later (members (keys_in items))
+
+-- at most one key is primary
+record IsSplit (keys : List KeyDefinition) : Type 0 where
+  pub further : further_keys keys ≡ filter (is_of false) keys
+  pub one : length (filter (is_of true) keys) ≤ 1
+
+split_primary : (k : KeyDefinition) (keys : List KeyDefinition) → is_primary k ≡ true → AllByRecursion (λ j. is_primary j ≡ false) keys → IsSplit (k ∷ keys)
+split_primary k keys e h = record {
+  further = rw e (sym (filter_all (is_of false) keys (every_map (λ j. is_primary j ≡ false) (λ j. is_of false j ≡ true) (λ j f. rw f refl) keys h)));
+  one = rw e (rw (filter_none (is_of true) keys h) (omega arith));
+}
+
+split_secondary : (k : KeyDefinition) (keys : List KeyDefinition) → is_primary k ≡ false → IsSplit keys → IsSplit (k ∷ keys)
+split_secondary k keys e is = record { further = rw e (ap (λ ks. k ∷ ks) is.further); one = rw e is.one }
+
+split : (keys : List KeyDefinition) → AllByRecursion (λ k. is_primary k ≡ false) (further_keys keys) → IsSplit keys
+split [] h = record { further = refl; one = omega arith }
+split (k ∷ keys) h =
+    let P : List KeyDefinition → Type 0 = λ ks. AllByRecursion (λ j. is_primary j ≡ false) ks in
+    elim (cases_Bool (is_primary k)) [
+      | inl e ↦ let behind : cond (is_primary k) keys (k ∷ further_keys keys) ≡ keys = rw e refl in split_primary k keys e (subst P behind h)
+      | inr e ↦
+          let behind : cond (is_primary k) keys (k ∷ further_keys keys) ≡ k ∷ further_keys keys = rw e refl in
+          let others : P (k ∷ further_keys keys) = subst P behind h in
+          split_secondary k keys e (split keys others.1)
+    ]
+
+-- the key of an index that has its name apart from the primary key's is another key
+index_primary : (k : KeyDefinition) → is_primary k ≡ true → index_name k ≡ primary_name
+unfolding index_name
+index_primary k e = rw e refl
+
+not_primary : (k : KeyDefinition) → same (index_name k) primary_name ≡ false → is_primary k ≡ false
+not_primary k e =
+    elim (cases_Bool (is_primary k)) [
+      | inl f ↦ let equal : same (index_name k) primary_name ≡ true = ap (λ n. same n primary_name) (index_primary k f) in absurd cc
+      | inr f ↦ f
+    ]
+
+all_further : (items : List CreateDefinition) → first_repeated (index_names items) ≡ None → AllByRecursion (λ k. is_primary k ≡ false) (further_keys (keys_in items))
+all_further items e =
+    let apart = (apart_from [] (index_names items) e).1 in
+    every_map (λ k. same (index_name k) primary_name ≡ false) (λ k. is_primary k ≡ false) not_primary (further_keys (keys_in items)) (of_every (λ n. same n primary_name ≡ false) index_name (further_keys (keys_in items)) apart.0)
+
+-- the indexes that are not primary
+declared_primary : (names : List (List ℕ)) (k : KeyDefinition) → (declared_index names k).primary ≡ is_primary k
+unfolding declared_index
+declared_primary names k = refl
+
+declared_name : (names : List (List ℕ)) (k : KeyDefinition) → (declared_index names k).name ≡ index_name k
+unfolding declared_index
+declared_name names k = refl
+
+others_of : (names : List (List ℕ)) (keys : List KeyDefinition) → filter (λ i. not i.primary) (map (declared_index names) keys) ≡ map (declared_index names) (filter (is_of false) keys)
+others_of names keys = filter_of (declared_index names) (λ i. not i.primary) (is_of false) (λ k. ap not (declared_primary names k)) keys
+
+abbrev first_keys : List CreateDefinition → List KeyDefinition
+first_keys items = filter (is_of true) (keys_in items)
+
+abbrev other_keys : List CreateDefinition → List KeyDefinition
+other_keys items = filter (is_of false) (keys_in items)
+
+others : (items : List CreateDefinition) → filter (λ i. not i.primary) (declared_indexes items) ≡ map (declared_index (column_names items)) (other_keys items)
+others items =
+    others_of (column_names items) (first_keys items ++ other_keys items)
+    ∙ ap (map (declared_index (column_names items))) (filter-append (is_of false) (first_keys items) (other_keys items)
+    ∙ rw (filter_none (is_of false) (first_keys items) (every_map (λ k. is_of true k ≡ true) (λ k. is_of false k ≡ false) (λ k e. rw e refl) (first_keys items) (every_passes (is_of true) (keys_in items))))
+    (filter_all (is_of false) (other_keys items) (every_passes (is_of false) (keys_in items))))
+
+all_others : (names : List (List ℕ)) (keys : List KeyDefinition) → AllByRecursion (λ k. is_of false k ≡ true) keys → AllByRecursion (λ i. i.primary ≡ false) (map (declared_index names) keys)
+all_others names keys h =
+    every_of (λ i. i.primary ≡ false) (declared_index names) keys (every_map (λ k. is_of false k ≡ true) (λ k. (declared_index names k).primary ≡ false) (λ k e. declared_primary names k ∙ not-true (is_primary k) e) keys h)
+
+every_drop : {A : Type 0} (P : A → Type 0) (xs : List A) → AllByRecursion P xs → AllByRecursion P (drop 1 xs)
+every_drop P [] h = tt
+every_drop P (x ∷ xs) h = h.1
+
+primary_first : (names : List (List ℕ)) (firsts others : List KeyDefinition) → length firsts ≤ 1 → AllByRecursion (λ k. is_of false k ≡ true) others → AllByRecursion (λ i. i.primary ≡ false) (drop 1 (map (declared_index names) (firsts ++ others)))
+primary_first names [] others one h = every_drop _ _ (all_others names others h)
+primary_first names (k ∷ []) others one h = all_others names others h
+primary_first names (k ∷ j ∷ ks) others one h = absurd (omega arith)
+
+-- the indexes within the limits
+shape : (create : CreateTable) → IsAccepted create.definitions → IsNamedTable create → IsSchema (declared create)
+unfolding declared
+shape create is named =
+    let items = create.definitions in
+    let cut = split (keys_in items) (all_further items is.indexes) in
+    let keys = all_sound items is (every_key IsNamedItem IsNamedKey (λ k h. h) items named.items) in
+    let numbered = every_append (IsSoundKey items) (first_keys items) (other_keys items) (every_filter (IsSoundKey items) (is_of true) (keys_in items) keys) (every_filter (IsSoundKey items) (is_of false) (keys_in items) keys) in
+    record {
+      few_columns = rw (length-map (columns_in items) (declared_column items)) is.limits.columns;
+      few_indexes = rw (others items, length-map (other_keys items) (declared_index (column_names items))) is.limits.indexes;
+      indexes = to_all _ _ (every_of (FitsIndex (declared_columns items)) (declared_index (column_names items)) (keys_by_number items) (every_map (IsSoundKey items) (λ k. FitsIndex (declared_columns items) (declared_index (column_names items) k)) (fits items) (keys_by_number items) numbered));
+      primary_first = to_all _ _ (primary_first (column_names items) (first_keys items) (other_keys items) cut.one (every_passes (is_of false) (keys_in items)));
+    }
+
+index_named : (k : KeyDefinition) → IsName k.name → IsName (index_name k)
+unfolding index_name
+index_named k named =
+    cond_both (is_primary k) primary_name (cond (same k.name primary_name) primary_name k.name) IsName (λ e. primary_named)
+    (λ e. cond_both (same k.name primary_name) primary_name k.name IsName (λ f. primary_named) (λ f. named))
+
+named_index : (names : List (List ℕ)) (k : KeyDefinition) → IsNamedKey k → IsNamedIndex (declared_index names k)
+unfolding declared_index
+named_index names k named = record {
+  name = index_named k named.name;
+  primary = λ e. index_primary k e;
+  parts = to_all _ _ (every_of IsWholePart (declared_part names) k.parts (every_any _ (λ p. record { rising = refl; whole = refl }) k.parts));
+}
+
+typed_column : (items : List CreateDefinition) (c : ColumnDefinition) → IsName c.name → IsTypedColumn (declared_column items c)
+unfolding declared_column
+typed_column items c named = record { name = named; kind = column_kind c }
+
+column_name_of : (items : List CreateDefinition) (c : ColumnDefinition) → (declared_column items c).name ≡ c.name
+unfolding declared_column
+column_name_of items c = refl
+
+has_column : (items : List CreateDefinition) → list_any is_column items ≡ true → 1 ≤ length (columns_in items)
+has_column [] e = absurd cc
+has_column (Column c ∷ items) e = omega arith
+has_column (Key k ∷ items) e = has_column items e
+
+-- the names of the columns and of the indexes are those of the statement
+columns_named : (items : List CreateDefinition) → names_of (declared_columns items) ≡ column_names items
+columns_named items = map_both (declared_column items) (λ c. c.name) (columns_in items) ∙ map_same (λ c. (declared_column items c).name) (λ c. c.name) (column_name_of items) (columns_in items)
+
+indexes_named : (items : List CreateDefinition) → further_keys (keys_in items) ≡ other_keys items → index_names_of (declared_indexes items) ≡ index_names items
+indexes_named items e =
+    ap (λ ns. primary_name ∷ ns) (ap (map (λ i. i.name)) (others items) ∙ map_both (declared_index (column_names items)) (λ i. i.name) (other_keys items)
+    ∙ map_same (λ k. (declared_index (column_names items) k).name) index_name (declared_name (column_names items)) (other_keys items) ∙ ap (map index_name) (sym e))
+
+given : (create : CreateTable) → IsAccepted create.definitions → IsNamedTable create → IsGiven (declared create)
+unfolding declared
+given create is named =
+    let items = create.definitions in
+    let cut = split (keys_in items) (all_further items is.indexes) in
+    let keys = every_key IsNamedItem IsNamedKey (λ k h. h) items named.items in
+    let numbered = every_append IsNamedKey (first_keys items) (other_keys items) (every_filter IsNamedKey (is_of true) (keys_in items) keys) (every_filter IsNamedKey (is_of false) (keys_in items) keys) in
+    record {
+      shape = shape create is named;
+      table = named.table;
+      some = rw (length-map (columns_in items) (declared_column items)) (has_column items named.column);
+      columns = to_all _ _ (every_of IsTypedColumn (declared_column items) (columns_in items) (every_map (λ c. IsName c.name) (λ c. IsTypedColumn (declared_column items c)) (typed_column items) (columns_in items) (every_column IsNamedItem (λ c. IsName c.name) (λ c h. h) items named.items)));
+      indexes = to_all _ _ (every_of IsNamedIndex (declared_index (column_names items)) (keys_by_number items) (every_map IsNamedKey (λ k. IsNamedIndex (declared_index (column_names items) k)) (named_index (column_names items)) (keys_by_number items) numbered));
+      columns_differ = ap first_repeated (columns_named items) ∙ is.columns;
+      indexes_differ = ap first_repeated (indexes_named items cut.further) ∙ is.indexes;
+    }
+
+-- what a statement gives
+pub unrefused : (o : Option SchemaFault) (d s : Schema) → unless_refused o d ≡ Ok s → (o ≡ None) × (d ≡ s)
+unrefused None d s e = (refl, cc)
+unrefused (Some fault) d s e = absurd cc
+
+by_statement : (o : Option CreateTable) (s : Schema) → IfSome o IsNamedTable → outcome_of o ≡ Ok s → IsGiven s
+unfolding schema_of
+by_statement None s named e = absurd cc
+by_statement (Some create) s named e =
+    let done = unrefused (refusal create) (declared create) s e in
+    subst IsGiven done.1 (given create (accepted create done.0) named)
+
+pub read_given : (text : List ℕ) (s : Schema) → read_of text ≡ Ok s → IsGiven s
+unfolding read_of
+read_given text s e = by_statement (create_form text) s (named_table text) e
+
+-- the same of a result
+pub answer_given : (text : List ℕ) (r : Result Schema SchemaFault) → Answers (read_of text) r → IfOk r IsGiven
+answer_given text (Ok s) h = read_given text s h
+answer_given text (Err fault) h = tt
+
+pub answer_fits : (text : List ℕ) (r : Result Schema SchemaFault) → Answers (read_of text) r → IfOk r IsSchema
+answer_fits text (Ok s) h = (read_given text s h).shape
+answer_fits text (Err fault) h = tt
+
+size_within : (bits : ℕ) → IsSize bits → (1 ≤ bits) × (bits ≤ 64)
+size_within _ size_8 = (omega arith, omega arith)
+size_within _ size_16 = (omega arith, omega arith)
+size_within _ size_24 = (omega arith, omega arith)
+size_within _ size_32 = (omega arith, omega arith)
+size_within _ size_64 = (omega arith, omega arith)
+
+kind_sized : (kind : ColType) → IsKind kind → IsSized kind
+kind_sized (Whole bits signed) h = size_within bits h
+kind_sized (VarChar count) h = tt
+
+pub answer_sized : (text : List ℕ) (r : Result Schema SchemaFault) → Answers (read_of text) r → IfOk r (λ s. All (λ c. IsSized c.kind) s.columns)
+answer_sized text (Ok s) h = λ k d b. kind_sized _ (((read_given text s h).columns k d b).kind)
+answer_sized text (Err fault) h = tt

@@ -1,0 +1,14 @@
+pub mod Accepting
+pub mod Apart
+pub mod Every
+pub mod Fitting
+pub mod Giving
+pub mod Grammar
+pub mod Places
+pub mod Readers
+pub mod Repeats
+pub mod Restoring
+pub mod Stating
+pub mod Tokens
+pub mod Typing
+pub mod Within

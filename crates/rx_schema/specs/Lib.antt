@@ -1,0 +1,10 @@
+pub mod Columns
+pub mod Given
+pub mod Indexes
+pub mod Limits
+pub mod Names
+pub mod Outcomes
+pub mod Profile
+pub mod Schema
+pub mod Tables
+pub mod Writing

@@ -1,0 +1,324 @@
+ghost use Rattle.std.specs.Prelude.{◌≡◌, length, drop, ◌-◌, codes, [], ◌∷◌};
+ghost use Rattle.std.specs.List.{list_any};
+ghost use Rattle.rx_schema.specs.Given.{first_given, last_given};
+ghost use Rattle.rx_schema.specs.Profile.{is_unsigned, is_zerofill, is_collation, is_character_set, own_collation, own_character_set, ends_in, ends_in_collate, ends_in_character_set, table_collation, table_character_set, defaults_of, is_another, takes_collation, takes_character_set, text_place, column_place, kind_place, part_place, method_place, key_place, item_place, first_place};
+
+use crate::faults::Which;
+use crate::names::same_name;
+use crate::types::{TypeWord, characters, type_word};
+use rx_ddl::{
+    Attribute, ColumnDefinition, CreateDefinition, CreateTable, KeyDefinition, KeyKind, KeyPart,
+    TableOption,
+};
+use rx_value::Bytes;
+
+/// Whether the collation and the character set that a table's options name last are the ones that are read, where
+/// they name any.
+#[derive(Clone, Copy, Debug, PartialEq, Eq)]
+pub(crate) struct Defaults {
+    pub collation: Option<bool>,
+    pub character_set: Option<bool>,
+}
+
+#[tactic(auto, unfolding(crate::specs::Profile::is_collation))]
+fn is_collation(name: &[u8]) -> bool
+    ensures { result ≡ is_collation name.now }
+{
+    same_name(name, b"utf8mb4_0900_bin")
+}
+
+#[tactic(auto, unfolding(crate::specs::Profile::is_character_set))]
+fn is_character_set(name: &[u8]) -> bool
+    ensures { result ≡ is_character_set name.now }
+{
+    same_name(name, b"utf8mb4")
+}
+
+/// The last words, so many or all.
+fn last_words(words: &[Bytes], count: usize) -> &[Bytes]
+    ensures { result.now ≡ drop (length words.now - count) words.now }
+{
+    &words[words.len().saturating_sub(count)..]
+}
+
+fn ends_in_collate(words: &[Bytes]) -> bool
+    ensures { result ≡ ends_in_collate words.now }
+{
+    match last_words(words, 1) {
+        [word] => same_name(b"COLLATE", word.as_slice()),
+        _ => false,
+    }
+}
+
+fn ends_in_charset(words: &[Bytes]) -> bool
+    ensures { result ≡ ends_in words.now (codes "CHARSET" ∷ []) }
+{
+    match last_words(words, 1) {
+        [word] => same_name(b"CHARSET", word.as_slice()),
+        _ => false,
+    }
+}
+
+fn ends_in_character_set(words: &[Bytes]) -> bool
+    ensures { result ≡ ends_in_character_set words.now }
+{
+    if ends_in_charset(words) {
+        return true;
+    }
+    match last_words(words, 2) {
+        [first, last] => same_name(b"CHARACTER", first.as_slice())
+            && same_name(b"SET", last.as_slice()),
+        _ => false,
+    }
+}
+
+#[tactic(auto, unfolding(crate::specs::Profile::table_collation))]
+fn table_collation(option: &TableOption) -> Option<bool>
+    ensures { result ≡ table_collation option.now }
+{
+    if ends_in_collate(option.words.as_slice()) {
+        Some(is_collation(option.value.as_slice()))
+    } else {
+        None
+    }
+}
+
+#[tactic(auto, unfolding(crate::specs::Profile::table_character_set))]
+fn table_character_set(option: &TableOption) -> Option<bool>
+    ensures { result ≡ table_character_set option.now }
+{
+    if ends_in_character_set(option.words.as_slice()) {
+        Some(is_character_set(option.value.as_slice()))
+    } else {
+        None
+    }
+}
+
+fn last_collation(options: &[TableOption]) -> Option<bool>
+    ensures { result ≡ last_given table_collation options.now }
+{
+    let mut last = None;
+    for option in options {
+        last = table_collation(option).or(last);
+    }
+    last
+}
+
+fn last_character_set(options: &[TableOption]) -> Option<bool>
+    ensures { result ≡ last_given table_character_set options.now }
+{
+    let mut last = None;
+    for option in options {
+        last = table_character_set(option).or(last);
+    }
+    last
+}
+
+/// What the options of a table say of its `varchar` columns. The last option of a kind counts.
+#[tactic(auto, unfolding(crate::specs::Profile::defaults_of))]
+fn defaults_of(options: &[TableOption]) -> Defaults
+    ensures { result ≡ defaults_of options.now }
+{
+    Defaults {
+        collation: last_collation(options),
+        character_set: last_character_set(options),
+    }
+}
+
+fn is_unsigned(attribute: &Attribute) -> bool
+    ensures { result ≡ is_unsigned attribute.now }
+{
+    matches!(attribute, Attribute::Unsigned)
+}
+
+/// Whether UNSIGNED is one of the attributes.
+pub(crate) fn has_unsigned(attributes: &[Attribute]) -> bool
+    ensures { result ≡ list_any is_unsigned attributes.now }
+{
+    attributes.iter().any(|a| is_unsigned(a))
+}
+
+fn is_zerofill(attribute: &Attribute) -> bool
+    ensures { result ≡ is_zerofill attribute.now }
+{
+    matches!(attribute, Attribute::Zerofill)
+}
+
+fn has_zerofill(attributes: &[Attribute]) -> bool
+    ensures { result ≡ list_any is_zerofill attributes.now }
+{
+    attributes.iter().any(|a| is_zerofill(a))
+}
+
+fn own_collation(attribute: &Attribute) -> Option<bool>
+    ensures { result ≡ own_collation attribute.now }
+{
+    match attribute {
+        Attribute::Collate(name) => Some(is_collation(name.as_slice())),
+        _ => None,
+    }
+}
+
+fn own_character_set(attribute: &Attribute) -> Option<bool>
+    ensures { result ≡ own_character_set attribute.now }
+{
+    match attribute {
+        Attribute::CharacterSet(name) => Some(is_character_set(name.as_slice())),
+        _ => None,
+    }
+}
+
+fn is_another(one: Option<bool>) -> bool
+    ensures { result ≡ is_another one }
+{
+    matches!(one, Some(false))
+}
+
+/// Whether a column's own collation, else the table's, is another than the one that is read.
+fn takes_collation(defaults: Defaults, attributes: &[Attribute]) -> bool
+    ensures { result ≡ takes_collation defaults attributes.now }
+{
+    let mut own = None;
+    for attribute in attributes {
+        own = own_collation(attribute).or(own);
+    }
+    is_another(own.or(defaults.collation))
+}
+
+/// The same of its character set.
+fn takes_character_set(defaults: Defaults, attributes: &[Attribute]) -> bool
+    ensures { result ≡ takes_character_set defaults attributes.now }
+{
+    let mut own = None;
+    for attribute in attributes {
+        own = own_character_set(attribute).or(own);
+    }
+    is_another(own.or(defaults.character_set))
+}
+
+#[tactic(auto, unfolding(crate::specs::Profile::text_place))]
+fn text_place(defaults: Defaults, column: &ColumnDefinition) -> Option<Which>
+    ensures { result ≡ text_place defaults column.now }
+{
+    let attributes = column.attributes.as_slice();
+    if has_unsigned(attributes) {
+        Some(Which::ColumnType)
+    } else if characters(column.arguments.as_slice()).is_none() {
+        Some(Which::Length)
+    } else if has_zerofill(attributes) {
+        Some(Which::Zerofill)
+    } else if takes_collation(defaults, attributes) {
+        Some(Which::Collation)
+    } else if takes_character_set(defaults, attributes) {
+        Some(Which::CharacterSet)
+    } else {
+        None
+    }
+}
+
+fn column_place(defaults: Defaults, column: &ColumnDefinition) -> Option<Which>
+    ensures { result ≡ column_place defaults column.now }
+{
+    match type_word(column.kind.as_slice()) {
+        TypeWord::Whole { bits: _ } => if has_zerofill(column.attributes.as_slice()) {
+            Some(Which::Zerofill)
+        } else {
+            None
+        },
+        TypeWord::VarChar => text_place(defaults, column),
+        TypeWord::Other => Some(Which::ColumnType),
+    }
+}
+
+fn kind_place(kind: KeyKind) -> Option<Which>
+    ensures { result ≡ kind_place kind }
+{
+    match kind {
+        KeyKind::Fulltext | KeyKind::Spatial => Some(Which::KeyKind),
+        _ => None,
+    }
+}
+
+/// What a part of a key has that is outside the profile: a prefix length, and behind it DESC.
+fn part_place(part: &KeyPart) -> Option<Which>
+    ensures { result ≡ part_place part.now }
+{
+    if part.prefix.is_some() {
+        Some(Which::Prefix)
+    } else if part.descending {
+        Some(Which::Descending)
+    } else {
+        None
+    }
+}
+
+fn first_part_place(parts: &[KeyPart]) -> Option<Which>
+    ensures { result ≡ first_given part_place parts.now }
+{
+    for part in parts {
+        if let Some(which) = part_place(part) {
+            return Some(which);
+        }
+    }
+    None
+}
+
+fn method_place(word: &[u8]) -> Option<Which>
+    ensures { result ≡ method_place word.now }
+{
+    if same_name(word, b"BTREE") {
+        None
+    } else {
+        Some(Which::KeyKind)
+    }
+}
+
+fn first_method_place(words: &[Bytes]) -> Option<Which>
+    ensures { result ≡ first_given method_place words.now }
+{
+    for word in words {
+        if let Some(which) = method_place(word.as_slice()) {
+            return Some(which);
+        }
+    }
+    None
+}
+
+#[tactic(auto, unfolding(crate::specs::Profile::key_place))]
+fn key_place(key: &KeyDefinition) -> Option<Which>
+    ensures { result ≡ key_place key.now }
+{
+    kind_place(key.kind)
+        .or(first_part_place(key.parts.as_slice()))
+        .or(first_method_place(key.methods.as_slice()))
+}
+
+fn item_place(defaults: Defaults, item: &CreateDefinition) -> Option<Which>
+    ensures { result ≡ item_place defaults item.now }
+{
+    match item {
+        CreateDefinition::Column(column) => column_place(defaults, column),
+        CreateDefinition::Key(key) => key_place(key),
+    }
+}
+
+fn first_item_place(defaults: Defaults, items: &[CreateDefinition]) -> Option<Which>
+    ensures { result ≡ first_given (item_place defaults) items.now }
+{
+    for item in items {
+        if let Some(which) = item_place(defaults, item) {
+            return Some(which);
+        }
+    }
+    None
+}
+
+/// The first place, in the order of the text, that is outside the profile of tables that are read. All that a column
+/// has stands at its name, and there the order is that of `Which`.
+#[tactic(auto, unfolding(crate::specs::Profile::first_place))]
+pub(crate) fn first_place(create: &CreateTable) -> Option<Which>
+    ensures { result ≡ first_place create.now }
+{
+    let defaults = defaults_of(create.options.as_slice());
+    first_item_place(defaults, create.definitions.as_slice())
+}
