@@ -1,3 +1,11 @@
-pub mod Lists
-pub mod More
+pub mod CondReaches
+pub mod CondSpelled
+pub mod Leads
 pub mod Levels
+pub mod Lists
+pub mod OperandLaws
+pub mod Parsing
+pub mod RowLaws
+pub mod TestLaws
+pub mod TestReaches
+pub mod TestReads

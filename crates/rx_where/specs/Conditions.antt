@@ -1,35 +1,32 @@
 -- Conditions: what AND, OR, NOT and parentheses make of tests.
-use Rattle.std.specs.Prelude.{◌≡◌, ℕ, zero, suc, ◌-◌, List, [], ◌∷◌, codes, Option, Some, None, length, Result, Ok, Err}
+use Rattle.std.specs.Prelude.{◌≡◌, ℕ, zero, suc, ◌-◌, List, codes, Option, Some, None, length, Result, Ok, Err}
 use Rattle.std.specs.Option.{option_or}
 use Rattle.rx_token.specs.declared.kinds.Token.{Token}
 use Rattle.rx_token.specs.declared.signs.TheConstants.{OPEN, CLOSE}
 use Rattle.rx_where.specs.declared.raw.RawCond.{RawCond}
 use Rattle.rx_where.specs.declared.conditions.ParseFault.{ParseFault}
 use Rattle.rx_where.specs.declared.conditions.ParseFault.TheVariants.{NotInGrammar, NoMemory}
-use Rattle.rx_where.specs.Raw.{RawTree, raw_trees, raw_tree_of, neg, conj, disj, none}
-use Rattle.rx_where.specs.Reading.{Reader, ◌>>=◌, after_word, after_sign, items_at}
+use Rattle.rx_where.specs.Raw.{RawTree, raw_tree_of, neg, conj_of, disj_of}
+use Rattle.rx_reading.specs.Reading.{Reader, ◌>>=◌, after_word, after_sign, items_at}
+use Rattle.rx_where.specs.Grammar.{IsNone}
 use Rattle.rx_where.specs.Tests.{operand_test_at, truth_at}
 use Rattle.rx_where.specs.Rows.{row_test_at}
-
--- a conjunction has at least two items
-abbrev pub conj_of : List RawTree → RawTree
-conj_of [] = conj none
-conj_of (t ∷ []) = t
-conj_of (t ∷ u ∷ ts) = conj (raw_trees (t ∷ u ∷ ts))
-
--- a disjunction has at least two items
-abbrev pub disj_of : List RawTree → RawTree
-disj_of [] = disj none
-disj_of (t ∷ []) = t
-disj_of (t ∷ u ∷ ts) = disj (raw_trees (t ∷ u ∷ ts))
 
 -- the longest test
 unfoldable pub test_at : Reader RawTree
 test_at ts = option_or (operand_test_at ts) (option_or (truth_at ts) (row_test_at ts))
 
+-- AND neg
+abbrev pub next_conjunct : Reader RawTree → Reader RawTree
+next_conjunct item ts = after_word (codes "AND") ts >>= item
+
 -- conj := neg {AND neg}
 abbrev pub conj_at : Reader RawTree → Reader RawTree
 conj_at item ts = items_at (after_word (codes "AND")) item ts >>= λ x. Some (conj_of x.0, x.1)
+
+-- OR conj
+abbrev pub next_disjunct : Reader RawTree → Reader RawTree
+next_disjunct item ts = after_word (codes "OR") ts >>= conj_at item
 
 -- cond := conj {OR conj}
 abbrev pub cond_at : Reader RawTree → Reader RawTree
@@ -62,3 +59,8 @@ Finds count read (Err NoMemory) = Unit {0}
 Finds count None (Err NotInGrammar) = Unit {0}
 Finds count (Some x) (Ok found) = (raw_tree_of found.0 ≡ x.0) × (found.1 ≡ count - length x.1)
 Finds count read result = ⊥
+
+-- A fault is that no condition begins with these tokens, or want of memory.
+abbrev pub Refuses : List Token → ParseFault → Type 0
+Refuses ts NotInGrammar = IsNone ts
+Refuses ts NoMemory = Unit {0}

@@ -1,9 +1,9 @@
 pub mod Conditions
+pub mod Grammar
 pub mod Kinds
 pub mod Names
 pub mod Operands
 pub mod Raw
-pub mod Reading
 pub mod Resolution
 pub mod Rows
 pub mod Tests

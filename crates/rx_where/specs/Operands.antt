@@ -8,7 +8,7 @@ use Rattle.rx_token.specs.declared.kinds.TokenKind.TheVariants.{Word, Quoted, Nu
 use Rattle.rx_token.specs.declared.signs.TheConstants.{PLUS, MINUS, OPEN, CLOSE, COMMA}
 use Rattle.rx_where.specs.declared.raw.RawOperand.{RawOperand}
 use Rattle.rx_where.specs.declared.raw.RawOperand.TheVariants.{Column, Constant}
-use Rattle.rx_where.specs.Reading.{Reader, ◌>>=◌, after_word, after_sign, name_at, text_at, items_at}
+use Rattle.rx_reading.specs.Reading.{Reader, ◌>>=◌, after_word, after_sign, name_at, text_at, items_at}
 
 -- numbers are below 2^127
 abbrev pub whole_of : TokenKind → Option ℕ

@@ -3,6 +3,7 @@ use Rattle.std.specs.Prelude.{ℕ, List, [], ◌∷◌}
 use Rattle.rx_value.specs.declared.values.Value.{Value}
 use Rattle.rx_cond.specs.declared.conds.Tri.{Tri}
 use Rattle.rx_cond.specs.declared.conds.Op.{Op}
+use Rattle.rx_cond.specs.declared.conds.Op.TheVariants.{Ge, Le}
 use Rattle.rx_where.specs.declared.raw.RawOperand.{RawOperand}
 use Rattle.rx_where.specs.declared.raw.RawCond.{RawCond}
 use Rattle.rx_where.specs.declared.raw.RawCond.TheOpen.{RawCond-F}
@@ -31,6 +32,22 @@ mutual
 abbrev pub raw_trees : List RawTree → RawTrees
 raw_trees [] = none
 raw_trees (t ∷ ts) = more t (raw_trees ts)
+
+-- a conjunction has at least two items
+abbrev pub conj_of : List RawTree → RawTree
+conj_of [] = conj none
+conj_of (t ∷ []) = t
+conj_of (t ∷ u ∷ ts) = conj (raw_trees (t ∷ u ∷ ts))
+
+-- a disjunction has at least two items
+abbrev pub disj_of : List RawTree → RawTree
+disj_of [] = disj none
+disj_of (t ∷ []) = t
+disj_of (t ∷ u ∷ ts) = disj (raw_trees (t ∷ u ∷ ts))
+
+-- at least the one and at most the other
+abbrev pub between : RawOperand → RawOperand → RawOperand → RawTree
+between left low high = conj (more (compare Ge left low) (more (compare Le left high) none))
 
 -- one layer of a condition, with the tree of each part in its place
 abbrev pub raw_step : RawCond-F RawTree → RawTree

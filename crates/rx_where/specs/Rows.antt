@@ -4,7 +4,7 @@ use Rattle.std.specs.Option.{option_or}
 use Rattle.rx_value.specs.declared.values.Value.{Value}
 use Rattle.rx_token.specs.declared.signs.TheConstants.{OPEN, CLOSE, COMMA}
 use Rattle.rx_where.specs.Raw.{RawTree, row_member, neg}
-use Rattle.rx_where.specs.Reading.{Reader, ◌>>=◌, after_word, after_sign, name_at, items_at}
+use Rattle.rx_reading.specs.Reading.{Reader, ◌>>=◌, after_word, after_sign, name_at, items_at}
 use Rattle.rx_where.specs.Operands.{constants_at}
 
 -- "(" name "," name {"," name} ")"

@@ -10,8 +10,8 @@ use Rattle.rx_cond.specs.declared.conds.Op.{Op}
 use Rattle.rx_cond.specs.declared.conds.Op.TheVariants.{Eq, SafeEq, Lt, Le, Gt, Ge, Ne}
 use Rattle.rx_where.specs.declared.raw.RawOperand.{RawOperand}
 use Rattle.rx_where.specs.declared.raw.RawOperand.TheVariants.{Column, Constant}
-use Rattle.rx_where.specs.Raw.{RawTree, truth, compare, member, is_null, like, neg, conj, none, more}
-use Rattle.rx_where.specs.Reading.{Reader, ◌>>=◌, after_word, text_at}
+use Rattle.rx_where.specs.Raw.{RawTree, truth, compare, member, is_null, like, neg, between}
+use Rattle.rx_reading.specs.Reading.{Reader, ◌>>=◌, after_word, text_at}
 use Rattle.rx_where.specs.Operands.{operand_at, constants_at}
 
 -- the comparison of a sign: `<>` and `!=` are one
@@ -51,10 +51,6 @@ is_not_null_at left ts = after_word (codes "IS") ts >>= λ behind. after_word (c
 -- IS NULL
 abbrev pub is_null_at : RawOperand → Reader RawTree
 is_null_at left ts = after_word (codes "IS") ts >>= λ behind. after_word (codes "NULL") behind >>= λ rest. Some (is_null left, rest)
-
--- at least the one and at most the other
-abbrev pub between : RawOperand → RawOperand → RawOperand → RawTree
-between left low high = conj (more (compare Ge left low) (more (compare Le left high) none))
 
 -- BETWEEN operand AND operand
 unfoldable pub between_at : RawOperand → Reader RawTree

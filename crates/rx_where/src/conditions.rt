@@ -1,12 +1,13 @@
-ghost use Rattle.std.specs.Prelude.{◌≡◌, ◌<◌, ◌≤◌, IfOk, IfSome, length, map, drop};
+ghost use Rattle.std.specs.Prelude.{◌≡◌, ◌<◌, ◌≤◌, IfOk, IfErr, IfSome, length, map, drop};
 ghost use Rattle.std.specs.Option.{option_map};
-ghost use Rattle.rx_where.specs.Raw.{raw_tree_of};
-ghost use Rattle.rx_where.specs.Conditions.{conj_of, disj_of, test_at, conj_at, cond_at, not_at, parens_at, nest, neg_at, longest_at, Finds};
+ghost use Rattle.rx_where.specs.Raw.{raw_tree_of, conj_of, disj_of};
+ghost use Rattle.rx_where.specs.Conditions.{test_at, next_conjunct, conj_at, next_disjunct, cond_at, not_at, parens_at, nest, neg_at, longest_at, Finds, Refuses};
+ghost use Rattle.rx_where.specs.Grammar.{IsCond, IsUnambiguous, IsLongest};
 
 use crate::raw::RawCond;
-use crate::reading::{after_sign, after_word};
 use crate::rows::row_test_at;
 use crate::single::{operand_test_at, truth_at};
+use rx_reading::{after_sign, after_word};
 use rx_token::{Token, signs};
 use std::alloc::{AllocError, Global};
 use thiserror::Error;
@@ -25,13 +26,20 @@ pub enum ParseFault {
 /// How many levels of parentheses and NOT a condition may have, and the level of the tests.
 const LEVELS: u32 = 65;
 
-/// The longest condition that begins at the token of this number, and the number of the token
-/// behind it. Parentheses and prefix NOT are nested 64 deep at most.
+/// The longest condition of the grammar that begins at the token of this number, and the number of
+/// the token behind it. Parentheses and prefix NOT are nested 64 deep at most. AND binds closer
+/// than OR, and NOT than AND, as in the MySQL manual's "Operator Precedence"; the forms are of its
+/// "Expressions".
 ///
 /// The error is `NotInGrammar` where no condition begins there, or `NoMemory`.
 pub fn parse(alloc: Global, tokens: &[Token], at: usize) -> Result<(RawCond, usize), ParseFault>
     requires { at ≤ length tokens.now }
-    ensures { Finds (length tokens.now) (longest_at (drop at tokens.now)) result }
+    ensures reads { Finds (length tokens.now) (longest_at (drop at tokens.now)) result }
+    ensures ends { IfOk result (λ x. (at < x.1) × (x.1 ≤ length tokens.now)) }
+    ensures found { IfOk result (λ x. IsCond (drop at tokens.now) (raw_tree_of x.0) (drop x.1 tokens.now)) }
+    ensures only { IsUnambiguous (drop at tokens.now) }
+    ensures longest { IfOk result (λ x. IsLongest (drop at tokens.now) (drop x.1 tokens.now)) }
+    ensures none { IfErr result (Refuses (drop at tokens.now)) }
 {
     let (_, here) = tokens.split_at(at);
     match cond_at(alloc, LEVELS, here) {
@@ -90,15 +98,28 @@ fn cond_at(
     items.push(first)?;
     let mut rest = start;
     'disjuncts: loop {
-        let Some(after) = after_word(rest, b"OR") else {
-            return Ok(Some((disj_of(items), rest)));
-        };
-        let Some((next, after)) = conj_at(alloc, levels, after)? else {
+        let Some((next, after)) = next_disjunct(alloc, levels, rest)? else {
             return Ok(Some((disj_of(items), rest)));
         };
         items.push(next)?;
         rest = after;
     }
+}
+
+/// OR and what stands behind it.
+#[cycle(cond)]
+fn next_disjunct(
+    alloc: Global,
+    levels: u32,
+    tokens: &[Token],
+) -> Result<Option<(RawCond, &[Token])>, AllocError>
+    ensures value { IfOk result (λ o. option_map (λ x. (raw_tree_of x.0, x.1.now)) o ≡ next_disjunct (neg_at levels) tokens.now) }
+    ensures shorter { IfOk result (λ o. IfSome o (λ x. length x.1.now < length tokens.now)) }
+{
+    let Some(behind) = after_word(tokens, b"OR") else {
+        return Ok(None);
+    };
+    conj_at(alloc, levels, behind)
 }
 
 /// The conjuncts at the front.
@@ -118,15 +139,28 @@ fn conj_at(
     items.push(first)?;
     let mut rest = start;
     'conjuncts: loop {
-        let Some(after) = after_word(rest, b"AND") else {
-            return Ok(Some((conj_of(items), rest)));
-        };
-        let Some((next, after)) = neg_at(alloc, levels, after)? else {
+        let Some((next, after)) = next_conjunct(alloc, levels, rest)? else {
             return Ok(Some((conj_of(items), rest)));
         };
         items.push(next)?;
         rest = after;
     }
+}
+
+/// AND and what stands behind it.
+#[cycle(cond)]
+fn next_conjunct(
+    alloc: Global,
+    levels: u32,
+    tokens: &[Token],
+) -> Result<Option<(RawCond, &[Token])>, AllocError>
+    ensures value { IfOk result (λ o. option_map (λ x. (raw_tree_of x.0, x.1.now)) o ≡ next_conjunct (neg_at levels) tokens.now) }
+    ensures shorter { IfOk result (λ o. IfSome o (λ x. length x.1.now < length tokens.now)) }
+{
+    let Some(behind) = after_word(tokens, b"AND") else {
+        return Ok(None);
+    };
+    neg_at(alloc, levels, behind)
 }
 
 /// A negation, a condition in parentheses, or a test, within so many levels.

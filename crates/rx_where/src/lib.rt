@@ -6,7 +6,6 @@ mod kinds;
 mod names;
 mod operands;
 mod raw;
-mod reading;
 mod resolving;
 mod rows;
 mod single;

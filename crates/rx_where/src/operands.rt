@@ -1,11 +1,11 @@
 ghost use Rattle.std.specs.Prelude.{◌≡◌, ◌<◌, ◌≤ℤ◌, ◌^◌, pos, length, IfOk, IfSome};
 ghost use Rattle.std.specs.Option.{option_map};
 ghost use Rattle.rx_token.specs.declared.signs.TheConstants.{COMMA};
-ghost use Rattle.rx_where.specs.Reading.{after_sign, items_at};
+ghost use Rattle.rx_reading.specs.Reading.{after_sign, items_at};
 ghost use Rattle.rx_where.specs.Operands.{whole_of, whole_at, plus_at, minus_at, number_at, null_at, constant_at, operand_at, constants_at};
 
 use crate::raw::RawOperand;
-use crate::reading::{after_sign, after_word, name_at, text_at};
+use rx_reading::{after_sign, after_word, name_at, text_at};
 use rx_token::{Token, TokenKind, signs};
 use rx_value::{Bytes, Key, Value};
 use std::alloc::{AllocError, Global};

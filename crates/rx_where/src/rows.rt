@@ -2,12 +2,12 @@ ghost use Rattle.std.specs.Prelude.{◌≡◌, ◌<◌, length, [], ◌∷◌, �
 ghost use Rattle.std.specs.Option.{option_map};
 ghost use Rattle.rx_token.specs.declared.signs.TheConstants.{COMMA};
 ghost use Rattle.rx_where.specs.Raw.{raw_tree_of};
-ghost use Rattle.rx_where.specs.Reading.{after_sign, name_at, items_at};
+ghost use Rattle.rx_reading.specs.Reading.{after_sign, name_at, items_at};
 ghost use Rattle.rx_where.specs.Rows.{names_at, tuple_at, tuples_at, row_list_at, not_row_list_at, row_test_at};
 
 use crate::operands::constants_at;
 use crate::raw::RawCond;
-use crate::reading::{after_sign, after_word, name_at};
+use rx_reading::{after_sign, after_word, name_at};
 use rx_token::{Token, signs};
 use rx_value::{Bytes, Key, KeyList, NameList};
 use std::alloc::{AllocError, Global};

@@ -1,12 +1,12 @@
 ghost use Rattle.std.specs.Prelude.{◌≡◌, ◌<◌, length, IfOk, IfSome};
 ghost use Rattle.std.specs.Option.{option_map};
-ghost use Rattle.rx_where.specs.Raw.{raw_tree_of};
-ghost use Rattle.rx_where.specs.Tests.{op_of_sign, op_of, op_at, compared_at, is_not_null_at, is_null_at, between, between_at, among_at, like_at, ranged_at, not_ranged_at, null_test_at, predicate_at, operand_test_at, alone_at, truth_at};
+ghost use Rattle.rx_where.specs.Raw.{raw_tree_of, between};
+ghost use Rattle.rx_where.specs.Tests.{op_of_sign, op_of, op_at, compared_at, is_not_null_at, is_null_at, between_at, among_at, like_at, ranged_at, not_ranged_at, null_test_at, predicate_at, operand_test_at, alone_at, truth_at};
 
 use crate::operands::{constants_at, operand_at};
 use crate::raw::{RawCond, RawOperand};
-use crate::reading::{after_word, text_at};
 use rx_cond::{Op, Tri};
+use rx_reading::{after_word, text_at};
 use rx_token::{Token, TokenKind, signs};
 use rx_value::Bytes;
 use std::alloc::{AllocError, Global};
@@ -141,10 +141,10 @@ fn between_at<'a>(
     let Some(behind) = after_word(tokens, b"BETWEEN") else {
         return Ok(None);
     };
-    let Some((low, behind)) = operand_at(alloc, behind)? else {
+    let Some((low, joined)) = operand_at(alloc, behind)? else {
         return Ok(None);
     };
-    let Some(behind) = after_word(behind, b"AND") else {
+    let Some(behind) = after_word(joined, b"AND") else {
         return Ok(None);
     };
     let Some((high, rest)) = operand_at(alloc, behind)? else {

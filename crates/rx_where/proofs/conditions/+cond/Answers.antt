@@ -1,9 +1,9 @@
 use Rattle.std.proofs.Common.{sym, codes}
 use Rattle.std.proofs.lemmas.List.{map_push}
-use Rattle.rx_where.specs.Raw.{raw_tree_of}
-use Rattle.rx_where.specs.Reading.{after_word}
-use Rattle.rx_where.specs.Conditions.{neg_at, conj_at, conj_of, disj_of}
-use Rattle.rx_where.proofs.More.{nothing, begins, goes_on, ends_before, ends_after, chained, chained_none}
+use Rattle.rx_where.specs.Raw.{raw_tree_of, conj_of, disj_of}
+use Rattle.rx_reading.specs.Reading.{after_word}
+use Rattle.rx_where.specs.Conditions.{neg_at, conj_at}
+use Rattle.rx_reading.proofs.More.{nothing, begins, goes_further, ends, chained, chained_none}
 use Rattle.rx_where.proofs.Levels.{no_level, one_level}
 use Rattle.rx_where.proofs.conditions.+cond.Goals as goal
 
@@ -18,20 +18,6 @@ cond_at-disjuncts-init t c =
     let shorter = rw c.in-Some.is at c.in_ok-first.ensures.shorter in
     rw (c.in_ok-push.ensures.items, c.new-items.ensures.items) (begins (after_word (codes "OR")) (conj_at (neg_at c.args.levels)) _ _ _ read shorter)
 
-pub cond_at-returns-in_default-after_word-clause-value : goal.cond_at-returns-in_default-after_word-clause-value
-cond_at-returns-in_default-after_word-clause-value t c = rw c.disj_of.ensures (chained disj_of _ _ _ (ends_before (after_word (codes "OR")) (conj_at (neg_at c.args.levels)) _ _ _ c.disjuncts.invariant c.in_default-after_word.ensures.value))
-
-pub cond_at-returns-in_default-2-clause-value : goal.cond_at-returns-in_default-2-clause-value
-cond_at-returns-in_default-2-clause-value t c =
-    let none = rw c.in_default-2.is at c.in_ok-next.ensures.value in
-    rw c.disj_of-in_default-2.ensures (chained disj_of _ _ _ (ends_after (after_word (codes "OR")) (conj_at (neg_at c.args.levels)) _ _ _ _ c.disjuncts.invariant c.in-Some-after_word.ensures.value none))
-
-pub cond_at-disjuncts-preserved : goal.cond_at-disjuncts-preserved
-cond_at-disjuncts-preserved t c =
-    let read = rw c.in-Some-2.is at c.in_ok-next.ensures.value in
-    let shorter = rw c.in-Some-2.is at c.in_ok-next.ensures.shorter in
-    rw (c.in_ok-push-2.ensures.items, map_push raw_tree_of c.disjuncts.items.items c.in-Some-2.next) (goes_on (after_word (codes "OR")) (conj_at (neg_at c.args.levels)) _ _ _ _ _ _ c.disjuncts.invariant c.in-Some-after_word.ensures.value c.in-Some-after_word.ensures.shorter read shorter)
-
 pub conj_at-returns-in_default-clause-value : goal.conj_at-returns-in_default-clause-value
 conj_at-returns-in_default-clause-value t c =
     let none = rw c.in_default.is at c.in_ok-first.ensures.value in
@@ -43,22 +29,30 @@ conj_at-conjuncts-init t c =
     let shorter = rw c.in-Some.is at c.in_ok-first.ensures.shorter in
     rw (c.in_ok-push.ensures.items, c.new-items.ensures.items) (begins (after_word (codes "AND")) (neg_at c.args.levels) _ _ _ read shorter)
 
-pub conj_at-returns-in_default-after_word-clause-value : goal.conj_at-returns-in_default-after_word-clause-value
-conj_at-returns-in_default-after_word-clause-value t c = rw c.conj_of.ensures (chained conj_of _ _ _ (ends_before (after_word (codes "AND")) (neg_at c.args.levels) _ _ _ c.conjuncts.invariant c.in_default-after_word.ensures.value))
-
-pub conj_at-returns-in_default-2-clause-value : goal.conj_at-returns-in_default-2-clause-value
-conj_at-returns-in_default-2-clause-value t c =
-    let none = rw c.in_default-2.is at c.in_ok-next.ensures.value in
-    rw c.conj_of-in_default-2.ensures (chained conj_of _ _ _ (ends_after (after_word (codes "AND")) (neg_at c.args.levels) _ _ _ _ c.conjuncts.invariant c.in-Some-after_word.ensures.value none))
-
-pub conj_at-conjuncts-preserved : goal.conj_at-conjuncts-preserved
-conj_at-conjuncts-preserved t c =
-    let read = rw c.in-Some-2.is at c.in_ok-next.ensures.value in
-    let shorter = rw c.in-Some-2.is at c.in_ok-next.ensures.shorter in
-    rw (c.in_ok-push-2.ensures.items, map_push raw_tree_of c.conjuncts.items.items c.in-Some-2.next) (goes_on (after_word (codes "AND")) (neg_at c.args.levels) _ _ _ _ _ _ c.conjuncts.invariant c.in-Some-after_word.ensures.value c.in-Some-after_word.ensures.shorter read shorter)
-
 pub neg_at-returns-then-levels-eq0-clause-value : goal.neg_at-returns-then-levels-eq0-clause-value
 neg_at-returns-then-levels-eq0-clause-value t c = no_level c.args.levels c.args.tokens.now c.if-levels-eq0.true
 
 pub neg_at-returns-clause-value : goal.neg_at-returns-clause-value
 neg_at-returns-clause-value t c = rw (sym (one_level c.args.levels c.args.tokens.now c.if-levels-eq0.false)) c.nest.ensures.value
+
+pub cond_at-returns-in_default-2-clause-value : goal.cond_at-returns-in_default-2-clause-value
+cond_at-returns-in_default-2-clause-value t c =
+    let none = rw c.in_default-2.is at c.in_ok-next.ensures.value in
+    rw c.disj_of.ensures (chained disj_of _ _ _ (ends (after_word (codes "OR")) (conj_at (neg_at c.args.levels)) _ _ _ c.disjuncts.invariant none))
+
+pub cond_at-disjuncts-preserved : goal.cond_at-disjuncts-preserved
+cond_at-disjuncts-preserved t c =
+    let read = rw c.in-Some-2.is at c.in_ok-next.ensures.value in
+    let shorter = rw c.in-Some-2.is at c.in_ok-next.ensures.shorter in
+    rw (c.in_ok-push-2.ensures.items, map_push raw_tree_of c.disjuncts.items.items c.in-Some-2.next) (goes_further (after_word (codes "OR")) (conj_at (neg_at c.args.levels)) _ _ _ _ _ c.disjuncts.invariant read shorter)
+
+pub conj_at-returns-in_default-2-clause-value : goal.conj_at-returns-in_default-2-clause-value
+conj_at-returns-in_default-2-clause-value t c =
+    let none = rw c.in_default-2.is at c.in_ok-next.ensures.value in
+    rw c.conj_of.ensures (chained conj_of _ _ _ (ends (after_word (codes "AND")) (neg_at c.args.levels) _ _ _ c.conjuncts.invariant none))
+
+pub conj_at-conjuncts-preserved : goal.conj_at-conjuncts-preserved
+conj_at-conjuncts-preserved t c =
+    let read = rw c.in-Some-2.is at c.in_ok-next.ensures.value in
+    let shorter = rw c.in-Some-2.is at c.in_ok-next.ensures.shorter in
+    rw (c.in_ok-push-2.ensures.items, map_push raw_tree_of c.conjuncts.items.items c.in-Some-2.next) (goes_further (after_word (codes "AND")) (neg_at c.args.levels) _ _ _ _ _ c.conjuncts.invariant read shorter)

@@ -1,7 +1,7 @@
 use Rattle.rx_token.specs.declared.signs.TheConstants.{COMMA}
-use Rattle.rx_where.specs.Reading.{after_sign}
+use Rattle.rx_reading.specs.Reading.{after_sign}
 use Rattle.rx_where.specs.Operands.{constant_at}
-use Rattle.rx_where.proofs.More.{nothing, begins, goes_on, ends_before, ends_after}
+use Rattle.rx_reading.proofs.More.{nothing, begins, goes_on, ends_before, ends_after}
 use Rattle.rx_where.proofs.operands.listed_at.Goals as goal
 
 pub returns-in_default-clause-value : goal.returns-in_default-clause-value

@@ -1,7 +1,7 @@
 use Rattle.std.proofs.Common.{length}
 use Rattle.rx_token.specs.declared.signs.TheConstants.{COMMA}
-use Rattle.rx_where.specs.Reading.{after_sign, name_at}
-use Rattle.rx_where.proofs.More.{Goes}
+use Rattle.rx_reading.specs.Reading.{after_sign, name_at}
+use Rattle.rx_reading.proofs.More.{Goes}
 use Rattle.rx_where.proofs.rows.name_list_at.Given as goal
 
 abbrev pub invariant-names : goal.invariant-names

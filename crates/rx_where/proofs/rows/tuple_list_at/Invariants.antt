@@ -1,8 +1,8 @@
 use Rattle.std.proofs.Common.{length}
 use Rattle.rx_token.specs.declared.signs.TheConstants.{COMMA}
-use Rattle.rx_where.specs.Reading.{after_sign}
+use Rattle.rx_reading.specs.Reading.{after_sign}
 use Rattle.rx_where.specs.Rows.{tuple_at}
-use Rattle.rx_where.proofs.More.{Goes}
+use Rattle.rx_reading.proofs.More.{Goes}
 use Rattle.rx_where.proofs.rows.tuple_list_at.Given as goal
 
 abbrev pub invariant-tuples : goal.invariant-tuples
