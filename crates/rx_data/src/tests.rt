@@ -65,7 +65,7 @@ fn shown(alloc: Global, read: Result<RowList, DataFault>) -> Result<Vec<u8>, All
 #[test]
 fn texts(rt: HostRuntime) -> Result<(), Fail> {
     let schema = schema(rt.alloc(), 8, true)?;
-    let rows: [(&[u8], &[u8]); 23] = [
+    let rows: [(&[u8], &[u8]); 24] = [
         (b"a,t\n", b"header mismatch"),
         (b"a,s\n1\n", b"field count: row 1"),
         (b"a,s\n127,x\n128,x\n", b"bad value: row 2 column 0"),
@@ -74,6 +74,7 @@ fn texts(rt: HostRuntime) -> Result<(), Fail> {
         (b"A,S\n-128,\\N\n", b"-128 NULL /"),
         (b"a,s\n1,\",\n\"\n2,\"\"\"\"", b"1 ,\n /2 \" /"),
         (b"a,s\r\n1,x\r\n2,\r\n", b"1 x /2  /"),
+        (b"a,s\r1,x\r2,\r", b"1 x /2  /"),
         (b"", b"header mismatch"),
         (b"a,s", b""),
         (b"\xef\xbb\xbfa,s\n1,x", b"1 x /"),
@@ -118,5 +119,29 @@ fn integers_of_64_bits(rt: HostRuntime) -> Result<(), Fail> {
         let found = shown(rt.alloc(), read)?;
         assert_eq!(rt; found.as_slice(), want, "at {text:?}");
     }
+    Ok(())
+}
+
+// A header and so many rows of 33 bytes.
+fn wide_rows(alloc: Global, count: usize) -> Result<Vec<u8>, AllocError> {
+    let mut text = Vec::from_slice(alloc, b"a,s\n")?;
+    for _ in 0..count {
+        text.extend_from_slice(b"00000000000000000000000000127,xy\n")?;
+    }
+    Ok(text)
+}
+
+#[test]
+fn a_million_rows_in_a_file_near_its_limit(rt: HostRuntime) -> Result<(), Fail> {
+    let schema = schema(rt.alloc(), 8, true)?;
+    let text = wide_rows(rt.alloc(), 1000000)?;
+    assert_eq!(rt; text.len(), 33000004);
+    let Ok(rows) = read_rows(rt.alloc(), text.as_slice(), &schema) else {
+        return Err(Fail::from(AllocError));
+    };
+    assert_eq!(rt; rows.as_slice().len(), 1000000);
+    let text = wide_rows(rt.alloc(), 1000001)?;
+    let read = read_rows(rt.alloc(), text.as_slice(), &schema);
+    assert!(rt; matches!(read, Err(DataFault::TooManyRows)));
     Ok(())
 }
