@@ -1,7 +1,3 @@
-pub mod Data
-pub mod Lines
-pub mod Lists
-pub mod Reading
-pub mod Schema
+pub mod Fronts
 pub mod Script
 pub mod Step

@@ -1,8 +1,10 @@
--- A script of one SELECT statement over integer columns, which the setting of the trace may precede.
-use Rattle.std.specs.Prelude.{ℕ, ◌^◌, ℤ, pos, neg_ℤ, true, List, [], ◌∷◌, length, codes, Option, Some, None, nat_lt, ◌==◌, if◌then◌else◌, position}
-use Rattle.std.specs.List.{range_with_len}
+-- A script of one SELECT statement with tests on integer columns, which the setting of the trace may precede.
+use Rattle.std.specs.Prelude.{ℕ, ◌^◌, ℤ, pos, neg_ℤ, Bool, true, false, List, [], ◌∷◌, length, codes, Option, Some, None, nat_lt, ◌==◌, if◌then◌else◌, position}
+use Rattle.std.specs.List.{range_with_len, slice_get}
 use Rattle.std.specs.Str.{str_eq_ignore_ascii_case}
 use Rattle.rx_value.specs.declared.values.Value.TheVariants.{Int}
+use Rattle.rx_value.specs.declared.shapes.ColType.{ColType}
+use Rattle.rx_value.specs.declared.shapes.ColType.TheVariants.{Whole, VarChar}
 use Rattle.rx_value.specs.declared.shapes.Column.{Column as TheColumn}
 use Rattle.rx_value.specs.declared.shapes.Schema.{Schema}
 use Rattle.rx_token.specs.declared.kinds.Token.{Token}
@@ -15,7 +17,8 @@ use Rattle.rx_cond.specs.declared.conds.Op.{Op}
 use Rattle.rx_cond.specs.declared.conds.Op.TheVariants.{Eq, Lt, Le, Gt, Ge, Ne}
 use Rattle.rx_cond.specs.declared.conds.Operand.TheVariants.{Column, Constant}
 use Rattle.rx_cond.specs.Tree.{Tree, truth, compare, conj, trees, none}
-use Rattle.rx_forms.specs.Reading.{Reader, ◌>>=◌, after_word, after_sign, after_text, name_at, is_end, items_at, of_whole}
+use Rattle.rx_reading.specs.Reading.{Reader, ◌>>=◌, after_word, after_sign, is_end, items_at, of_whole}
+use Rattle.rx_forms.specs.Fronts.{after_text, plain_name_at}
 use Rattle.rx_forms.specs.declared.statements.Setting.TheVariants.{Trace}
 use Rattle.rx_forms.specs.Step.{Asked, Request, query, change, Step}
 
@@ -25,16 +28,26 @@ number_of columns name = position (λ c. str_eq_ignore_ascii_case name c.name) c
 
 -- the number of a column that stands by its name
 abbrev pub column_at : List TheColumn → Reader ℕ
-column_at columns ts = name_at ts >>= λ name. number_of columns name.0 >>= λ number. Some (number, name.1)
+column_at columns ts = plain_name_at ts >>= λ name. number_of columns name.0 >>= λ number. Some (number, name.1)
 
--- the same, as a list of one
-abbrev pub selected_at : List TheColumn → Reader (List ℕ)
-selected_at columns ts = column_at columns ts >>= λ column. Some (column.0 ∷ [], column.1)
+-- an integer type
+abbrev pub is_whole : ColType → Bool
+is_whole (Whole bits signed) = true
+is_whole (VarChar chars) = false
+
+-- an integer column, where there is a column
+abbrev pub is_whole_column : Option TheColumn → Bool
+is_whole_column None = false
+is_whole_column (Some column) = is_whole column.kind
+
+-- the number of an integer column that stands by its name
+abbrev pub whole_column_at : List TheColumn → Reader ℕ
+whole_column_at columns ts = column_at columns ts >>= λ column. if is_whole_column (slice_get columns column.0) then Some column else None
 
 -- all columns where `*` stands, and else those that are named
 abbrev pub columns_of : List TheColumn → List Token → Option (List Token) → Option (List ℕ × List Token)
 columns_of columns ts (Some behind) = Some (range_with_len 0 (length columns), behind)
-columns_of columns ts None = items_at (after_sign COMMA) (selected_at columns) ts
+columns_of columns ts None = items_at (after_sign COMMA) (column_at columns) ts
 
 -- `*`, which is all columns in order, or name {, name}
 abbrev pub columns_at : List TheColumn → Reader (List ℕ)
@@ -88,10 +101,10 @@ abbrev pub constant_at : Reader ℤ
 constant_at ts = constant_of ts (after_sign MINUS ts)
 
 -- name op [-] number
-abbrev pub test_at : List TheColumn → Reader (List Tree)
+abbrev pub test_at : List TheColumn → Reader Tree
 test_at columns ts =
-    column_at columns ts >>= λ column. op_at column.1 >>= λ op. constant_at op.1 >>= λ n.
-    Some (compare op.0 (Column column.0) (Constant (Int n.0)) ∷ [], n.1)
+    whole_column_at columns ts >>= λ column. op_at column.1 >>= λ op. constant_at op.1 >>= λ n.
+    Some (compare op.0 (Column column.0) (Constant (Int n.0)), n.1)
 
 -- one test is its own condition
 abbrev pub all_of_tests : List Tree → Tree
@@ -125,7 +138,7 @@ rows_of schema columns table ts =
 abbrev pub query_at : Schema → Reader Asked
 query_at schema ts =
     after_word (codes "SELECT") ts >>= λ select. columns_at schema.columns select >>= λ columns.
-    after_word (codes "FROM") columns.1 >>= λ from. name_at from >>= λ table. rows_of schema columns.0 table.0 table.1
+    after_word (codes "FROM") columns.1 >>= λ from. plain_name_at from >>= λ table. rows_of schema columns.0 table.0 table.1
 
 -- a request with its number
 abbrev pub step : ℕ → Request → Step

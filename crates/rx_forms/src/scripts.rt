@@ -1,21 +1,22 @@
 ghost use Rattle.std.specs.Prelude.{◌≡◌, ◌≤◌, ◌<◌, ◌∷◌, [], Some, None, All, length, map, codes, IfOk, IfSome, position, pos, ◌≤ℤ◌, ◌^◌};
 ghost use Rattle.std.specs.Option.{option_map};
 ghost use Rattle.std.specs.Result.{IsErrOf};
-ghost use Rattle.std.specs.List.{range_with_len};
+ghost use Rattle.std.specs.List.{range_with_len, slice_get};
 ghost use Rattle.std.specs.Str.{str_eq_ignore_ascii_case};
 ghost use Rattle.rx_cond.specs.Tree.{tree_of};
 ghost use Rattle.rx_token.specs.declared.signs.TheConstants.{COMMA};
-ghost use Rattle.rx_forms.specs.Reading.{after_word, after_sign, items_at};
+ghost use Rattle.rx_reading.specs.Reading.{after_word, after_sign, items_at};
 ghost use Rattle.rx_forms.specs.Step.{asked_of, step_of, SelectsWithin};
-ghost use Rattle.rx_forms.specs.Script.{number_of, column_at, selected_at, columns_at, op_of_sign, op_of, op_at, whole_of, whole_at, constant_at, test_at, all_of_tests, tests_at, cond_at, query_at, last_at, after_trace, script_at, script_form};
+ghost use Rattle.rx_forms.specs.Script.{number_of, column_at, is_whole, is_whole_column, whole_column_at, columns_at, op_of_sign, op_of, op_at, whole_of, whole_at, constant_at, test_at, all_of_tests, tests_at, cond_at, query_at, last_at, after_trace, script_at, script_form};
 
 use crate::faults::FormFault;
-use crate::reading::{after_sign, after_text, after_word, is_end, name_at};
+use crate::fronts::{after_text, plain_name_at};
 use crate::statements::{Numbered, Query, Script, Setting, Statement};
 use crate::words::same_word;
 use rx_cond::{Cond, Op, Operand, Tri};
+use rx_reading::{after_sign, after_word, is_end};
 use rx_token::{Token, TokenKind, signs, tokens};
-use rx_value::{Column, NumberList, Schema, Value};
+use rx_value::{ColType, Column, NumberList, Schema, Value};
 use std::alloc::{AllocError, Global};
 
 fn place_of(columns: &[Column], name: &[u8]) -> Option<usize>
@@ -46,13 +47,43 @@ fn column_at<'a>(columns: &[Column], tokens: &'a [Token]) -> Option<(u32, &'a [T
     ensures within { IfSome result (λ x. x.0 < length columns.now) }
     ensures shorter { IfSome result (λ x. length x.1.now < length tokens.now) }
 {
-    let Some((name, rest)) = name_at(tokens) else {
+    let Some((name, rest)) = plain_name_at(tokens) else {
         return None;
     };
     let Some(number) = number_of(columns, name) else {
         return None;
     };
     Some((number, rest))
+}
+
+fn is_whole(kind: ColType) -> bool
+    ensures { result ≡ is_whole kind }
+{
+    matches!(kind, ColType::Whole { bits: _, signed: _ })
+}
+
+fn is_whole_column(columns: &[Column], number: u32) -> bool
+    ensures { result ≡ is_whole_column (slice_get columns.now number) }
+{
+    match columns.get(number as usize) {
+        Some(column) => is_whole(column.kind),
+        None => false,
+    }
+}
+
+/// The number of an integer column that stands by its name, and the tokens behind it.
+fn whole_column_at<'a>(columns: &[Column], tokens: &'a [Token]) -> Option<(u32, &'a [Token])>
+    requires { length columns.now ≤ 256 }
+    ensures value { option_map (λ x. (x.0, x.1.now)) result ≡ whole_column_at columns.now tokens.now }
+    ensures shorter { IfSome result (λ x. length x.1.now < length tokens.now) }
+{
+    let Some((number, rest)) = column_at(columns, tokens) else {
+        return None;
+    };
+    if is_whole_column(columns, number) {
+        return Some((number, rest));
+    }
+    None
 }
 
 /// The columns with commas between their names, and the tokens behind them.
@@ -62,7 +93,7 @@ fn named_columns<'a>(
     tokens: &'a [Token],
 ) -> Result<Option<(NumberList, &'a [Token])>, AllocError>
     requires { length columns.now ≤ 256 }
-    ensures value { IfOk result (λ o. option_map (λ x. (x.0, x.1.now)) o ≡ items_at (after_sign COMMA) (selected_at columns.now) tokens.now) }
+    ensures value { IfOk result (λ o. option_map (λ x. (x.0, x.1.now)) o ≡ items_at (after_sign COMMA) (column_at columns.now) tokens.now) }
     ensures within { IfOk result (λ o. IfSome o (λ x. All (λ n. n < length columns.now) x.0)) }
 {
     let Some((first, start)) = column_at(columns, tokens) else {
@@ -190,13 +221,13 @@ fn constant_at(tokens: &[Token]) -> Option<(i128, &[Token])>
     whole_at(tokens)
 }
 
-/// A comparison of a column with a number, and the tokens behind it.
+/// A comparison of an integer column with a number, and the tokens behind it.
 fn test_at<'a>(columns: &[Column], tokens: &'a [Token]) -> Option<(Cond, &'a [Token])>
     requires { length columns.now ≤ 256 }
-    ensures value { option_map (λ x. (tree_of x.0 ∷ [], x.1.now)) result ≡ test_at columns.now tokens.now }
+    ensures value { option_map (λ x. (tree_of x.0, x.1.now)) result ≡ test_at columns.now tokens.now }
     ensures shorter { IfSome result (λ x. length x.1.now < length tokens.now) }
 {
-    let Some((column, behind)) = column_at(columns, tokens) else {
+    let Some((column, behind)) = whole_column_at(columns, tokens) else {
         return None;
     };
     let Some((op, behind)) = op_at(behind) else {
@@ -284,7 +315,7 @@ fn query_at<'a>(
     let Some(behind) = after_word(behind, b"FROM") else {
         return Ok(None);
     };
-    let Some((table, behind)) = name_at(behind) else {
+    let Some((table, behind)) = plain_name_at(behind) else {
         return Ok(None);
     };
     if !same_word(table, schema.table.as_slice()) {
@@ -363,7 +394,7 @@ fn script_at(alloc: Global, tokens: &[Token], schema: &Schema) -> Result<Option<
 
 /// The statements of a script, one `SELECT (* | name {, name}) FROM name [WHERE test {AND test}] [;]` over the table,
 /// which `SET optimizer_trace='enabled=on';` may precede.
-/// A test is `name op [-] number` with one of `=`, `<`, `<=`, `>`, `>=`, `<>` and `!=`. Names are words without quotes
+/// A test is `name op [-] number` of an integer column with one of `=`, `<`, `<=`, `>`, `>=`, `<>` and `!=`. Names are words without quotes
 /// that aren't reserved. Columns and the table are found without case, and of columns with one name the first.
 ///
 /// `NotBuilt`: the text isn't so.

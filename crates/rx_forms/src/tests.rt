@@ -1,23 +1,32 @@
-use crate::{
-    FormFault, Query, Script, Setting, Statement, read_data_form, read_schema_form,
-    read_script_form,
-};
+use crate::{FormFault, Query, Script, Setting, Statement, read_script_form};
 use rx_cond::{Cond, Op, Operand};
-use rx_value::{Row, RowList, Schema, Value};
+use rx_value::{Bytes, ColType, Column, ColumnList, IndexList, Schema, Value};
 use std::alloc::{AllocError, Global};
 use std::test::Fail;
 
-// The name of the table and those of the columns, with `?` behind a column that may be NULL.
-fn shown_schema(alloc: Global, schema: &Schema) -> Result<Vec<u8>, AllocError> {
-    let mut shown = Vec::from_slice(alloc, schema.table.as_slice())?;
-    for column in schema.columns.as_slice() {
-        shown.push(b' ')?;
-        shown.extend_from_slice(column.name.as_slice())?;
-        if column.nullable {
-            shown.push(b'?')?;
-        }
+// The table `t` of the integers `a` and `Bc` and the text `s`.
+fn three_columns(alloc: Global) -> Result<Schema, AllocError> {
+    let mut columns = ColumnList::new(alloc);
+    let whole = ColType::Whole {
+        bits: 32,
+        signed: true,
+    };
+    for (name, kind) in [
+        ("a", whole),
+        ("Bc", whole),
+        ("s", ColType::VarChar { chars: 9 }),
+    ] {
+        columns.push(Column {
+            name: Bytes::of(alloc, name.as_bytes())?,
+            kind,
+            nullable: true,
+        })?;
     }
-    Ok(shown)
+    Ok(Schema {
+        table: Bytes::of(alloc, b"t")?,
+        columns,
+        indexes: IndexList::new(alloc),
+    })
 }
 
 fn show_value(alloc: Global, shown: &mut Vec<u8>, value: &Value) -> Result<(), AllocError> {
@@ -30,24 +39,6 @@ fn show_value(alloc: Global, shown: &mut Vec<u8>, value: &Value) -> Result<(), A
         Value::Text(text) => shown.extend_from_slice(text.as_slice())?,
     }
     Ok(())
-}
-
-fn show_row(alloc: Global, shown: &mut Vec<u8>, row: &Row) -> Result<(), AllocError> {
-    for value in row.as_slice() {
-        show_value(alloc, shown, value)?;
-        shown.push(b' ')?;
-    }
-    shown.push(b'/')?;
-    Ok(())
-}
-
-// The values of each row, and `/` behind it.
-fn shown_rows(alloc: Global, rows: &RowList) -> Result<Vec<u8>, AllocError> {
-    let mut shown = Vec::new(alloc);
-    for row in rows.as_slice() {
-        show_row(alloc, &mut shown, row)?;
-    }
-    Ok(shown)
 }
 
 fn show_side(alloc: Global, shown: &mut Vec<u8>, side: &Operand) -> Result<(), AllocError> {
@@ -128,89 +119,13 @@ fn shown_fault(alloc: Global, fault: FormFault) -> Result<Vec<u8>, AllocError> {
 }
 
 #[test]
-fn schemas(rt: HostRuntime) -> Result<(), Fail> {
-    let texts: [(&[u8], &[u8]); 16] = [
-        (b"CREATE TABLE t (a int)", b"t a?"),
-        (
-            b" create\ttable T1 (\nId INT not null, key k (x, y), b int null\n) ;",
-            b"T1 Id b?",
-        ),
-        (
-            b"CREATE TABLE create (int int, table int)",
-            b"create int? table?",
-        ),
-        (
-            b"CREATE TABLE t (a int, KEY k (a), KEY k (select))",
-            b"not built",
-        ),
-        (b"CREATE TABLE t (KEY k (a), a int)", b"t a?"),
-        (b"CREATE TABLE t (KEY k (a))", b"not built"),
-        (b"CREATE TABLE t (a varchar(3))", b"not built"),
-        (b"CREATE TABLE t (a int, A int)", b"not built"),
-        (b"CREATE TABLE t (key int)", b"not built"),
-        (b"CREATE TABLE t (`a` int)", b"not built"),
-        (b"CREATE TABLE t (a int NOT)", b"not built"),
-        (b"CREATE TABLE t (a int,)", b"not built"),
-        (b"CREATE TABLE t (a int);;", b"not built"),
-        (b"CREATE TABLE t (a int) 'x", b"not built"),
-        (b"CREATE TABLE t (a int", b"not built"),
-        (b"", b"not built"),
-    ];
-    for (text, want) in texts {
-        let shown = match read_schema_form(rt.alloc(), text) {
-            Ok(schema) => shown_schema(rt.alloc(), &schema)?,
-            Err(fault) => shown_fault(rt.alloc(), fault)?,
-        };
-        assert_eq!(rt; shown.as_slice(), want, "at {text:?}");
-    }
-    Ok(())
-}
-
-#[test]
-fn rows(rt: HostRuntime) -> Result<(), Fail> {
-    let Ok(schema) = read_schema_form(rt.alloc(), b"CREATE TABLE t (a int NOT NULL, Bc int)") else {
-        return Err(Fail::from(AllocError));
-    };
-    let texts: [(&[u8], &[u8]); 18] = [
-        (
-            b"a,bc\n1,\\N\n-2147483648,0002147483",
-            b"1 N /-2147483648 2147483 /",
-        ),
-        (b"A,BC\n2147483647,-0\n", b"2147483647 0 /"),
-        (b"a,bc", b""),
-        (b"a,bc\n", b""),
-        (b"a,bc\n\n", b"not built"),
-        (b"", b"not built"),
-        (b"\n", b"not built"),
-        (b"a\n1\n", b"not built"),
-        (b"a,b\n1,2\n", b"not built"),
-        (b"a,bc\n1\n", b"not built"),
-        (b"a,bc\n1,2,3\n", b"not built"),
-        (b"a,bc\n\\N,2\n", b"not built"),
-        (b"a,bc\n2147483648,2\n", b"not built"),
-        (b"a,bc\n1,-2147483649\n", b"not built"),
-        (b"a,bc\n00000000001,2\n", b"not built"),
-        (b"a,bc\n1,+2\n", b"not built"),
-        (b"a,bc\n1,-\n", b"not built"),
-        (b"a,bc\r\n1,2\r\n", b"not built"),
-    ];
-    for (text, want) in texts {
-        let shown = match read_data_form(rt.alloc(), text, &schema) {
-            Ok(rows) => shown_rows(rt.alloc(), &rows)?,
-            Err(fault) => shown_fault(rt.alloc(), fault)?,
-        };
-        assert_eq!(rt; shown.as_slice(), want, "at {text:?}");
-    }
-    Ok(())
-}
-
-#[test]
 fn scripts(rt: HostRuntime) -> Result<(), Fail> {
-    let Ok(schema) = read_schema_form(rt.alloc(), b"CREATE TABLE t (a int, Bc int)") else {
-        return Err(Fail::from(AllocError));
-    };
-    let texts: [(&[u8], &[u8]); 18] = [
-        (b"SELECT * FROM T", b"1:#0 #1 T"),
+    let schema = three_columns(rt.alloc())?;
+    assert!(rt; schema.columns.as_slice().len() <= 256);
+    let texts: [(&[u8], &[u8]); 20] = [
+        (b"SELECT * FROM T", b"1:#0 #1 #2 T"),
+        (b"SELECT s FROM t WHERE a = 1", b"1:#2 #0=1"),
+        (b"SELECT a FROM t WHERE s = 1", b"not built"),
         (b"select bC,a,bc from t;", b"1:#1 #0 #1 T"),
         (b"SELECT a FROM t WHERE a<=-007", b"1:#0 #0<=-7"),
         (

@@ -1,6 +1,6 @@
 use Rattle.std.proofs.Common.{sym, ◌∙◌}
 use Rattle.rx_forms.specs.Script.{script_at, script_form}
-use Rattle.rx_forms.proofs.Whole.{bad_text, good_text}
+use Rattle.rx_reading.proofs.Whole.{bad_text, good_text}
 use Rattle.rx_forms.proofs.scripts.read_script_form.Goals as goal
 
 pub returns-then-is_some-clause-refused : goal.returns-then-is_some-clause-refused

@@ -1,9 +1,9 @@
 use Rattle.std.proofs.Common.{codes}
 use Rattle.std.proofs.lemmas.List.{map_push}
 use Rattle.rx_cond.specs.Tree.{tree_of}
-use Rattle.rx_forms.specs.Reading.{after_word}
+use Rattle.rx_reading.specs.Reading.{after_word}
 use Rattle.rx_forms.specs.Script.{test_at, all_of_tests}
-use Rattle.rx_forms.proofs.More.{nothing, begins, goes_on, ends_before, ends_after, chained, chained_none}
+use Rattle.rx_reading.proofs.More.{nothing, begins, goes_on, ends_before, ends_after, chained, chained_none}
 use Rattle.rx_forms.proofs.scripts.tests_at.Goals as goal
 
 pub returns-in_default : goal.returns-in_default
