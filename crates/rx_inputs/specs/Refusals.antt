@@ -1,0 +1,98 @@
+-- Why the words or a file are refused, and the line that says so.
+use Rattle.std.specs.Prelude.{ℕ, List, [], ◌++◌, Option, Some, None, codes}
+use Rattle.std.specs.List.{slice_get}
+use Rattle.std.specs.Fmt.{decimal}
+use Rattle.rx_value.specs.declared.shapes.Column.{Column}
+use Rattle.rx_value.specs.declared.shapes.Schema.{Schema as TheSchema}
+use Rattle.rx_schema.specs.declared.faults.Which.{Which}
+use Rattle.rx_schema.specs.declared.faults.Which.TheVariants.{ColumnType, Length, Zerofill, Collation, CharacterSet, KeyKind, Prefix, Descending}
+use Rattle.rx_schema.specs.declared.faults.Many.{Many}
+use Rattle.rx_schema.specs.declared.faults.Many.TheVariants.{Columns, Indexes, Parts}
+use Rattle.rx_schema.specs.declared.faults.SchemaFault.{SchemaFault}
+use Rattle.rx_schema.specs.declared.faults.SchemaFault.TheVariants as of_schema
+use Rattle.rx_data.specs.declared.faults.DataFault.{DataFault}
+use Rattle.rx_data.specs.declared.faults.DataFault.TheVariants as of_data
+use Rattle.rx_inputs.specs.declared.refusals.Input.{Input}
+use Rattle.rx_inputs.specs.declared.refusals.Input.TheVariants.{Schema, Data, Script}
+
+-- why the words or a file are refused
+pub data Refusal : Type 0 where
+  words : Refusal
+  too_long : Input → Refusal
+  not_built : Input → Refusal
+  no_schema : SchemaFault → Refusal
+  -- the data of a table with this schema
+  no_rows : TheSchema → DataFault → Refusal
+
+-- the most bytes of a file
+abbrev pub limit_of : Input → ℕ
+limit_of Schema = 1048576
+limit_of Data = 33554432
+limit_of Script = 1048576
+
+-- how a file is called
+abbrev pub name_of : Input → List ℕ
+name_of Schema = codes "schema"
+name_of Data = codes "data"
+name_of Script = codes "script"
+
+-- how a refusal calls what is outside the profile
+abbrev pub which_text : Which → List ℕ
+which_text ColumnType = codes "column type"
+which_text Length = codes "length"
+which_text Zerofill = codes "zerofill"
+which_text Collation = codes "collation"
+which_text CharacterSet = codes "character set"
+which_text KeyKind = codes "key kind"
+which_text Prefix = codes "prefix"
+which_text Descending = codes "descending"
+
+-- how a refusal calls what there is too much of
+abbrev pub many_text : Many → List ℕ
+many_text Columns = codes "columns"
+many_text Indexes = codes "indexes"
+many_text Parts = codes "parts"
+
+-- the name of a column, and nothing where there is none
+abbrev pub name_or_nothing : Option Column → List ℕ
+name_or_nothing None = []
+name_or_nothing (Some column) = column.name
+
+-- the name of a column by its number from 0, and nothing where there is none
+abbrev pub column_name : List Column → ℕ → List ℕ
+column_name columns n = name_or_nothing (slice_get columns n)
+
+-- a front, a name and the end of the line
+abbrev pub named_line : List ℕ → List ℕ → List ℕ
+named_line front name = front ++ name ++ codes "\n"
+
+-- a front, a row, the name of a column and the end of the line
+abbrev pub field_line : List ℕ → ℕ → List ℕ → List ℕ
+field_line front row name = front ++ decimal row ++ codes " column " ++ name ++ codes "\n"
+
+-- what the refusal of a schema says
+abbrev pub schema_line : SchemaFault → List ℕ
+schema_line of_schema.NotInGrammar = codes "refused: schema: not in grammar\n"
+schema_line (of_schema.NotInProfile which) = named_line (codes "refused: schema: not in profile: ") (which_text which)
+schema_line (of_schema.TooMany which) = named_line (codes "refused: schema: too many: ") (many_text which)
+schema_line (of_schema.Duplicate name) = named_line (codes "refused: schema: duplicate: ") name
+schema_line (of_schema.UnknownColumn name) = named_line (codes "refused: schema: unknown column: ") name
+schema_line of_schema.NoMemory = codes "out of memory\n"
+
+-- what the refusal of data says
+abbrev pub data_line : List Column → DataFault → List ℕ
+data_line columns (of_data.NotCsv quotes) = codes "refused: data: not csv\n"
+data_line columns of_data.HeaderMismatch = codes "refused: data: header mismatch\n"
+data_line columns (of_data.FieldCount row) = named_line (codes "refused: data: field count: row ") (decimal row)
+data_line columns (of_data.BadValue row column) = field_line (codes "refused: data: bad value: row ") row (column_name columns column)
+data_line columns (of_data.NullNotAllowed row column) = field_line (codes "refused: data: null not allowed: row ") row (column_name columns column)
+data_line columns of_data.TooManyRows = codes "refused: data: too many rows\n"
+data_line columns of_data.NoMemory = codes "out of memory\n"
+
+-- the line of a refusal
+abbrev pub line_of_refusal : Refusal → List ℕ
+line_of_refusal words = codes "refused: words\n"
+line_of_refusal (too_long input) = codes "refused: " ++ name_of input ++ codes ": too long\n"
+line_of_refusal (not_built input) = codes "refused: not built: " ++ name_of input ++ codes "\n"
+line_of_refusal (no_schema fault) = schema_line fault
+line_of_refusal (no_rows schema fault) = data_line schema.columns fault

@@ -1,0 +1,121 @@
+ghost use Rattle.std.specs.Prelude.{◌≡◌, IfOk};
+ghost use Rattle.std.specs.Fmt.{decimal};
+ghost use Rattle.rx_inputs.specs.Refusals.{column_name, named_line, field_line, schema_line, data_line, too_long, not_built, line_of_refusal};
+
+use crate::refusals::{Input, many_text, which_text};
+use itoa::Buffer;
+use rx_data::DataFault;
+use rx_schema::SchemaFault;
+use rx_value::{Bytes, Column};
+use std::alloc::{AllocError, Global};
+
+/// The line of a file past its limit.
+pub(crate) fn too_long_line(input: Input) -> &'static [u8]
+    ensures { result.now ≡ line_of_refusal (too_long input) }
+{
+    match input {
+        Input::Schema => b"refused: schema: too long\n",
+        Input::Data => b"refused: data: too long\n",
+        Input::Script => b"refused: script: too long\n",
+    }
+}
+
+/// The line of a file in a form that isn't built.
+pub(crate) fn not_built_line(input: Input) -> &'static [u8]
+    ensures { result.now ≡ line_of_refusal (not_built input) }
+{
+    match input {
+        Input::Schema => b"refused: not built: schema\n",
+        Input::Data => b"refused: not built: data\n",
+        Input::Script => b"refused: not built: script\n",
+    }
+}
+
+/// A front, a name, and the end of the line. The error is want of memory.
+fn named_line(alloc: Global, front: &[u8], name: &[u8]) -> Result<Bytes, AllocError>
+    ensures { IfOk result (λ line. line ≡ named_line front.now name.now) }
+{
+    let mut line = Bytes::of(alloc, front)?;
+    line.append(name)?;
+    line.push(b'\n')?;
+    Ok(line)
+}
+
+/// A front, a row, the name of a column, and the end of the line. The error is want of memory.
+fn field_line(alloc: Global, front: &[u8], row: u64, name: &[u8]) -> Result<Bytes, AllocError>
+    ensures { IfOk result (λ line. line ≡ field_line front.now row name.now) }
+{
+    let mut line = Bytes::of(alloc, front)?;
+    line.append(Buffer::new().format(row).as_bytes())?;
+    line.append(b" column ")?;
+    line.append(name)?;
+    line.push(b'\n')?;
+    Ok(line)
+}
+
+/// The name of a column by its number from 0.
+fn column_name(columns: &[Column], number: u32) -> &[u8]
+    ensures { result.now ≡ column_name columns.now number }
+{
+    match columns.get(number as usize) {
+        Some(column) => column.name.as_slice(),
+        None => b"",
+    }
+}
+
+/// The line of a refused schema. The error is want of memory.
+pub(crate) fn schema_line(alloc: Global, fault: &SchemaFault) -> Result<Bytes, AllocError>
+    ensures { IfOk result (λ line. line ≡ schema_line fault.now) }
+{
+    match fault {
+        SchemaFault::NotInGrammar => Bytes::of(alloc, b"refused: schema: not in grammar\n"),
+        SchemaFault::NotInProfile { which } => named_line(
+            alloc,
+            b"refused: schema: not in profile: ",
+            which_text(*which),
+        ),
+        SchemaFault::TooMany { which } => {
+            named_line(alloc, b"refused: schema: too many: ", many_text(*which))
+        }
+        SchemaFault::Duplicate { name } => {
+            named_line(alloc, b"refused: schema: duplicate: ", name.as_slice())
+        }
+        SchemaFault::UnknownColumn { name } => {
+            named_line(alloc, b"refused: schema: unknown column: ", name.as_slice())
+        }
+        SchemaFault::NoMemory => Bytes::of(alloc, b"out of memory\n"),
+    }
+}
+
+/// The line of refused data over these columns. The error is want of memory.
+pub(crate) fn data_line(
+    alloc: Global,
+    columns: &[Column],
+    fault: &DataFault,
+) -> Result<Bytes, AllocError>
+    ensures { IfOk result (λ line. line ≡ data_line columns.now fault.now) }
+{
+    match fault {
+        DataFault::NotCsv { quotes: _ } => Bytes::of(alloc, b"refused: data: not csv\n"),
+        DataFault::HeaderMismatch => Bytes::of(alloc, b"refused: data: header mismatch\n"),
+        DataFault::FieldCount { row } => named_line(
+            alloc,
+            b"refused: data: field count: row ",
+            Buffer::new().format(*row).as_bytes(),
+        ),
+        DataFault::BadValue { row, column } => field_line(
+            alloc,
+            b"refused: data: bad value: row ",
+            *row,
+            column_name(columns, *column),
+        ),
+        DataFault::NullNotAllowed { row, column } => field_line(
+            alloc,
+            b"refused: data: null not allowed: row ",
+            *row,
+            column_name(columns, *column),
+        ),
+        DataFault::TooManyRows => Bytes::of(alloc, b"refused: data: too many rows\n"),
+        DataFault::NoMemory => Bytes::of(alloc, b"out of memory\n"),
+    }
+}
