@@ -1,12 +1,11 @@
 pub mod Answer
+pub mod Asking
 pub mod Blocks
 pub mod Candidates
-pub mod Checked
 pub mod Ending
 pub mod Output
 pub mod Plan
 pub mod Printed
-pub mod Reading
 pub mod Running
 pub mod Select
 pub mod Settings

@@ -8,12 +8,11 @@ mod printing;
 mod scripts;
 mod settings;
 mod stops;
+#[cfg(test)]
+mod tests;
 mod tool;
 mod traces;
 mod words;
 
 pub use stops::Status;
 pub use tool::{Ran, run};
-
-#[cfg(test)]
-mod tests;

@@ -45,7 +45,7 @@ fn ran(
     let words = words_of(alloc, words)?;
     let files = files_of(alloc, texts, None)?;
     let mut out = MemSink::new(alloc, 4096)?;
-    let mut err = MemSink::new(alloc, 64)?;
+    let mut err = MemSink::new(alloc, 256)?;
     let ran = run(alloc, words.as_slice(), files, &mut out, &mut err);
     Ok((ran.status, out, err))
 }
@@ -90,22 +90,32 @@ fn puts_the_defined_text_or_line(rt: HostRuntime) -> Result<(), Fail> {
             "",
         ),
         (
-            ["CREATE TABLE t (a varchar(3))", pairs, ""],
+            [
+                "CREATE TABLE `t` (`Name` varchar(9) NOT NULL, KEY `k` (`name`)) ENGINE=InnoDB;",
+                "Name\nb\\\n\"c\td\"\n\"\"\n",
+                "SELECT name FROM t",
+            ],
+            Status::Done,
+            "b\\\\\nc\\td\n\n\\. 3\n",
+            "",
+        ),
+        (
+            ["CREATE TABLE t (a datetime)", pairs, ""],
             Status::Refused,
             "",
-            "refused: not built: schema\n",
+            "refused: schema: not in profile: column type\n",
         ),
         (
             [SCHEMA, "a,b\n1\n", ""],
             Status::Refused,
             "",
-            "refused: not built: data\n",
+            "refused: data: field count: row 1\n",
         ),
         (
-            [SCHEMA, "a,b\n\\N,1\n", ""],
+            [SCHEMA, "a,b\n1,2\n1,2147483648\n", ""],
             Status::Refused,
             "",
-            "refused: not built: data\n",
+            "refused: data: bad value: row 2 column b\n",
         ),
         (
             [SCHEMA, pairs, "SELECT a FROM t WHERE a = 1 OR a = 2"],

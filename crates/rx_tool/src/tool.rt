@@ -1,21 +1,22 @@
 ghost use Rattle.std.specs.Prelude.{◌≡◌, ◌≢◌, ◌≤◌, ℕ, None, IsSomeAnd, IfOk, IfErr, OnOk, map, string_bytes};
 ghost use Rattle.rx_outside.specs.Files.{KeepsFiles};
-ghost use Rattle.rx_tool.specs.Output.{output, TakesText, HandsBack, HasRoomForText};
-ghost use Rattle.rx_tool.specs.Running.{HasRoom};
-ghost use Rattle.rx_tool.specs.Stops.{longest_line};
+ghost use Rattle.rx_tool.specs.Output.{output, TakesText, HandsBack, HasRoomForText, HasRoomForLine};
 ghost use Rattle.rx_tool.specs.Words.{command_of};
 ghost use Rattle.rx_tool.specs.Ending.{StopsRun, StopsScriptRun, EndsRefused, EndsOutside, EndsWithoutMemory, IsComplete};
 ghost use Rattle.rx_store.specs.Stored.{IsStorable};
-ghost use Rattle.rx_tool.specs.Checked.Checked.{Accepts};
-ghost use Rattle.rx_tool.specs.Reading.{inputs, IsSureOf};
+ghost use Rattle.rx_inputs.specs.Checked.Checked.{Accepts};
+ghost use Rattle.rx_inputs.specs.Faults.{held};
+ghost use Rattle.rx_tool.specs.Asking.{IsSureOf, IsRefusalOfWords};
 
 use crate::engine::SelectFault;
-use crate::inputs::{Inputs, read_inputs};
+use crate::inputs::read_command;
 use crate::scripts::run_script;
-use crate::stops::{Refusal, Status, Stop, tell};
+use crate::stops::{Status, Stop, tell};
 use crate::words::command_of;
+use rx_inputs::Inputs;
 use rx_outside::{Files, Sink};
 use rx_store::MemTable;
+use rx_value::Bytes;
 use std::alloc::Global;
 
 /// How a run ended, and what it hands back.
@@ -56,7 +57,7 @@ pub fn run<F: Files, O: Sink, E: Sink>(
     ensures complete { IsComplete (output (map string_bytes words.now) (F.told files)) (F.faults files) (F.faults result.files) (O.faults out.old) (O.faults out.new) (E.faults err.old) (E.faults err.new) result.status }
     ensures sure { IsSureOf (F.sure files) (command_of (map string_bytes words.now)) → F.faults result.files ≡ F.faults files }
     ensures calm { HasRoomForText (output (map string_bytes words.now) (F.told files)) (O.room out.old) → O.faults out.new ≡ O.faults out.old }
-    ensures err_calm { HasRoom (E.room err.old) longest_line → E.faults err.new ≡ E.faults err.old }
+    ensures err_calm { HasRoomForLine (output (map string_bytes words.now) (F.told files)) (E.room err.old) → E.faults err.new ≡ E.faults err.old }
 
     // The files stay as they were, and no count of faults falls.
     ensures keeps { KeepsFiles F.told F.sure F.room files result.files }
@@ -73,7 +74,7 @@ pub fn run<F: Files, O: Sink, E: Sink>(
             second: None,
         },
         Err(stop) => {
-            let status = tell(stop, err);
+            let status = tell(&stop, err);
             Ran {
                 status,
                 files,
@@ -101,22 +102,32 @@ fn work<F: Files, O: Sink>(
     ensures out_later { O.faults out.old ≤ O.faults out.new }
 {
     let Some(asked) = command_of(words) else {
-        return Err(Stop::Refused(Refusal::Words));
+        return Err(refused_words(alloc));
     };
-    let read = match read_inputs(alloc, files, &asked) {
+    let read = match read_command(alloc, files, &asked) {
         Ok(read) => read,
         Err(stop) => return Err(stop),
     };
     run_inputs(alloc, read, out)
 }
 
+// The refusal of words that are no command, or want of memory where there was none for its line.
+fn refused_words(alloc: Global) -> Stop
+    ensures { IsRefusalOfWords result }
+{
+    match Bytes::of(alloc, b"refused: words\n") {
+        Ok(line) => Stop::Refused(line),
+        Err(_) => Stop::NoMemory,
+    }
+}
+
 // Runs the script of the inputs over their table.
 fn run_inputs<O: Sink>(alloc: Global, read: Inputs, out: &mut O) -> Result<MemTable, Stop>
     requires { IsStorable read.schema read.rows }
-    ensures text { OnOk result (TakesText (Accepts (inputs read)) (O.text out.old) (O.text out.new)) }
-    ensures table { IfOk result (HandsBack (Accepts (inputs read))) }
-    ensures stopped { IfErr result (StopsScriptRun (inputs read) (O.faults out.old) (O.faults out.new) (O.text out.old) (O.text out.new)) }
-    ensures calm { HasRoomForText (Accepts (inputs read)) (O.room out.old) → O.faults out.new ≡ O.faults out.old }
+    ensures text { OnOk result (TakesText (Accepts (held read)) (O.text out.old) (O.text out.new)) }
+    ensures table { IfOk result (HandsBack (Accepts (held read))) }
+    ensures stopped { IfErr result (StopsScriptRun (held read) (O.faults out.old) (O.faults out.new) (O.text out.old) (O.text out.new)) }
+    ensures calm { HasRoomForText (Accepts (held read)) (O.room out.old) → O.faults out.new ≡ O.faults out.old }
     ensures out_later { O.faults out.old ≤ O.faults out.new }
 {
     let Inputs {

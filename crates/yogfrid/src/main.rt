@@ -1,21 +1,51 @@
 //! The command line program: it carries out its words by the system's files and streams.
 #![tactic(auto)]
 
+use rx_outside::write_all;
 use rx_real::{RealErr, RealFiles, RealOut};
 use rx_tool::run;
+use std::alloc::Global;
+use std::env;
+use std::io::ErrorKind;
 use std::process::ExitCode;
+
+/// Why the words weren't read.
+enum Unread {
+    /// One of them isn't UTF-8.
+    NotText,
+    NoMemory,
+}
+
+// The words after the program's name.
+fn words_of(alloc: Global, rt: &HostRuntime) -> Result<Vec<String>, Unread> {
+    let all = match env::args(rt) {
+        Ok(all) => all,
+        Err(fault) if fault.kind() == ErrorKind::InvalidData => return Err(Unread::NotText),
+        Err(_) => return Err(Unread::NoMemory),
+    };
+    match all.skip(1).collect(alloc) {
+        Ok(words) => Ok(words),
+        Err(_) => Err(Unread::NoMemory),
+    }
+}
 
 fn main(rt: HostRuntime) -> ExitCode {
     let alloc = rt.alloc();
     let mut out = RealOut::new(rt.stdout());
     let mut err = RealErr::new(rt.stderr());
-    let Ok(words) = std::env::args(&rt) else {
-        return ExitCode::from(3);
+    let words = match words_of(alloc, &rt) {
+        Ok(words) => words,
+        Err(unread) => {
+            let (line, status): (&[u8], u8) = match unread {
+                Unread::NotText => (b"refused: words\n", 2),
+                Unread::NoMemory => (b"out of memory\n", 3),
+            };
+            return match write_all(&mut err, line) {
+                Ok(()) => ExitCode::from(status),
+                Err(_) => ExitCode::from(1),
+            };
+        }
     };
-    let Ok(words) = words.skip(1).collect(alloc) else {
-        return ExitCode::from(3);
-    };
-    let words: Vec<String> = words;
     let ran = run(
         alloc,
         words.as_slice(),
