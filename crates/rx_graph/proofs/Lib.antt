@@ -1,0 +1,4 @@
+pub mod Steps
+pub mod Amounts
+pub mod Listed
+pub mod Same

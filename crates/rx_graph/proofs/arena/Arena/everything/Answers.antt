@@ -1,0 +1,7 @@
+use Rattle.std.proofs.Common.{◌+◌, [], rules}
+use Rattle.rx_graph.specs.declared.handles.Root.TheVariants.{Everything}
+use Rattle.rx_graph.proofs.Steps.{canonical_given}
+use Rattle.rx_graph.proofs.arena.Arena.everything.Goals as goal
+
+pub returns-clause-canonical : goal.returns-clause-canonical
+returns-clause-canonical c = canonical_given c.args.self.now (record { nullable = c.self.inside.nullable; store = c.self.inside.levels; all = c.self.inside.all + 1; none = c.self.inside.none }) [] Everything (search rules) tt

@@ -1,0 +1,4 @@
+use Rattle.rx_graph.proofs.points.+level_at.Given as goal
+
+abbrev pub decreases-level_at : goal.decreases-level_at
+decreases-level_at l = l.part

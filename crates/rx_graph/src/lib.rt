@@ -1,0 +1,17 @@
+//! Graphs of intervals under handles: sets of keys as trees whose levels share what they have in common.
+#![tactic(auto)]
+
+mod arena;
+mod faults;
+mod handles;
+mod points;
+mod rising;
+#[cfg(test)]
+mod scale;
+#[cfg(test)]
+mod tests;
+mod wholes;
+
+pub use arena::Arena;
+pub use faults::GraphFault;
+pub use handles::{Handle, Root};

@@ -1,0 +1,39 @@
+//! The levels of point sets.
+
+ghost use Rattle.std.specs.Prelude.{◌≡◌, ℕ, Bool, List, [], ◌∷◌, Option, IfOk, OnErr};
+ghost use Rattle.rx_tree.specs.Tree.{Level};
+ghost use Rattle.rx_tree.specs.Points.{items_at};
+ghost use Rattle.rx_level.specs.Store.{IsSound};
+ghost use Rattle.rx_level.specs.Step.{Step, level_of};
+
+use crate::wholes::whole_of;
+use rx_level::{Item, Levels, build};
+use rx_value::Span;
+use std::alloc::{AllocError, Global};
+
+/// The items of some spans at a part, under one whole item of each part before it. The error is want of
+/// memory.
+pub fn level_at(
+    levels: &mut Levels,
+    alloc: Global,
+    nullable: &[bool],
+    part: u32,
+    spans: &[Span],
+) -> Result<Option<usize>, AllocError>
+    requires { IsSound levels.old [] }
+    ensures ok { IfOk result (λ r. Step levels.old levels.new [] (r ∷ [])) }
+    ensures level { IfOk result (λ r. level_of levels.new r ≡ items_at nullable.now part spans.now) }
+    ensures err { OnErr result (Step levels.old levels.new [] []) }
+{
+    let [first, rest @ ..] = nullable else {
+        return Ok(None);
+    };
+    if part == 0 {
+        let level = build(levels, alloc, spans)?;
+        return Ok(level);
+    }
+    let child = level_at(levels, alloc, rest, part - 1, spans)?;
+    let span = whole_of(*first);
+    let whole = levels.branch(Item { span, child }, None, None)?;
+    Ok(whole)
+}

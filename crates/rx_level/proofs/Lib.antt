@@ -1,0 +1,14 @@
+pub mod Counts
+pub mod Unfolding
+pub mod Heights
+pub mod Reach
+pub mod Steps
+pub mod Sizes
+pub mod Lending
+pub mod Turning
+pub mod Totals
+pub mod Sinking
+pub mod Lists
+pub mod Depth
+pub mod Entries
+pub mod Marks

@@ -1,0 +1,5 @@
+pub mod Entries
+pub mod Tree
+pub mod Store
+pub mod Step
+pub mod Under

@@ -1,0 +1,48 @@
+use crate::building::build;
+use crate::joining::{append, join, take_first};
+use crate::levels::Levels;
+use rx_value::{End, Side, Span, SpanList, Value};
+use std::alloc::{AllocError, Global};
+use std::test::Fail;
+
+fn points(alloc: Global, first: i128, last: i128) -> Result<SpanList, AllocError> {
+    let mut spans = SpanList::new(alloc);
+    for n in first..=last {
+        spans.push(Span {
+            lo: End::Cut {
+                at: Value::Int(n),
+                side: Side::Below,
+            },
+            hi: End::Cut {
+                at: Value::Int(n),
+                side: Side::Above,
+            },
+        })?;
+    }
+    Ok(spans)
+}
+
+#[test]
+fn levels_put_together_and_taken_apart(rt: HostRuntime) -> Result<(), Fail> {
+    let alloc = rt.alloc();
+    let (low, high) = (points(alloc, 1, 40)?, points(alloc, 41, 45)?);
+    let mut levels = Levels::new(alloc);
+    let left = build(&mut levels, alloc, low.as_slice())?;
+    let right = build(&mut levels, alloc, high.as_slice())?;
+    let whole = append(&mut levels, left, right)?;
+    assert_eq!(rt;
+        (levels.count(whole), levels.size(whole), levels.live()),
+        (45, 45, 45)
+    );
+    assert!(rt; levels.height(whole) <= 7);
+    let Some(key) = whole else {
+        return Err(Fail::from(AllocError));
+    };
+    let first = take_first(&mut levels, key)?;
+    assert_eq!(rt; (levels.count(first.rest), levels.live()), (44, 44));
+    let again = join(&mut levels, None, first.item, first.rest)?;
+    assert_eq!(rt; (levels.count(again), levels.live()), (45, 45));
+    levels.free(again);
+    assert_eq!(rt; (levels.live(), levels.handles()), (0, 0));
+    Ok(())
+}
