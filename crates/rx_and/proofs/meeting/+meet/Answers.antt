@@ -1,0 +1,190 @@
+use Rattle.std.proofs.Common.{arith, refl, ap, ◌∙◌}
+use Rattle.rx_tree.specs.Tree.{level_size}
+use Rattle.rx_tree.specs.Meet.{across as across_level}
+use Rattle.rx_tree.specs.Meet.{both as both_level}
+use Rattle.rx_level.specs.Step.{level_of}
+use Rattle.rx_and.proofs.Meets.{smaller, stays, stays_two, across_within, both_within, across_later, both_later, over_later, crossed, met, piece_over, piece_none, piece_some}
+use Rattle.rx_and.proofs.meeting.+meet.Goals as goal
+
+pub across-piece-requires : goal.across-piece-requires
+across-piece-requires t c =
+    let o = c.in-Some.seen in
+    let less = smaller _ _ _ _ o.span.now c.in-Some.ensures.level in
+    (omega (arith, less.child, c.decreases), (c.requires.sound, (c.requires.c, c.in-Some.ensures.child)))
+
+pub across-returns-in-Err-clause-over : goal.across-returns-in-Err-clause-over
+across-returns-in-Err-clause-over t c e =
+    let o = c.in-Some.seen in
+    let a = c.args.levels.now in
+    let w = across_within (both_level (level_of a c.args.c)) (level_of a c.args.c) c.args.span.now o.span.now c.in-Ok.part _ _ _ _ c.in-Some.ensures.level c.in-Ok.ensures in
+    over_later c.args.limit _ _ _ (c.in-Err.ensures.over e) refl w.second
+
+pub across-across-requires : goal.across-across-requires
+across-across-requires t c =
+    let o = c.in-Some.seen in
+    let a = c.args.levels.now in
+    let one = c.in-Ok-piece.ensures.ok in
+    let less = smaller _ _ _ _ o.span.now c.in-Some.ensures.level in
+    let c1 = stays a _ _ c.requires.sound one c.args.c c.requires.c in
+    let l1 = stays a _ _ c.requires.sound one o.left c.in-Some.ensures.left in
+    (omega (arith, less.left, c1.size_same, l1.size_same, c.decreases), (one.sound, (c1.lent, l1.lent)))
+
+pub across-returns-in-Err-across-clause-over : goal.across-returns-in-Err-across-clause-over
+across-returns-in-Err-across-clause-over t c e =
+    let o = c.in-Some.seen in
+    let a = c.args.levels.now in
+    let one = c.in-Ok-piece.ensures.ok in
+    let w = across_within (both_level (level_of a c.args.c)) (level_of a c.args.c) c.args.span.now o.span.now c.in-Ok.part _ _ _ _ c.in-Some.ensures.level c.in-Ok.ensures in
+    over_later c.args.limit _ _ _ (c.in-Err-across.ensures.over e)
+    (across_later a c.piece.new.levels c.args.c o.left c.args.span.now (stays a _ _ c.requires.sound one c.args.c c.requires.c) (stays a _ _ c.requires.sound one o.left c.in-Some.ensures.left))
+    w.first
+
+pub across-across-requires-2 : goal.across-across-requires-2
+across-across-requires-2 t c =
+    let o = c.in-Some.seen in
+    let a = c.args.levels.now in
+    let one = c.in-Ok-piece.ensures.ok in
+    let two = c.in-Ok-across.ensures.ok in
+    let less = smaller _ _ _ _ o.span.now c.in-Some.ensures.level in
+    let c2 = stays_two a _ _ _ _ c.requires.sound one two c.args.c c.requires.c in
+    let r2 = stays_two a _ _ _ _ c.requires.sound one two o.right c.in-Some.ensures.right in
+    (omega (arith, less.right, c2.size_same, r2.size_same, c.decreases), (two.sound, (c2.lent, r2.lent)))
+
+pub across-returns-in-Err-across-2-clause-over : goal.across-returns-in-Err-across-2-clause-over
+across-returns-in-Err-across-2-clause-over t c e =
+    let o = c.in-Some.seen in
+    let a = c.args.levels.now in
+    let one = c.in-Ok-piece.ensures.ok in
+    let two = c.in-Ok-across.ensures.ok in
+    let w = across_within (both_level (level_of a c.args.c)) (level_of a c.args.c) c.args.span.now o.span.now c.in-Ok.part _ _ _ _ c.in-Some.ensures.level c.in-Ok.ensures in
+    over_later c.args.limit _ _ _ (c.in-Err-across-2.ensures.over e)
+    (across_later a c.across.new.levels c.args.c o.right c.args.span.now (stays_two a _ _ _ _ c.requires.sound one two c.args.c c.requires.c) (stays_two a _ _ _ _ c.requires.sound one two o.right c.in-Some.ensures.right))
+    w.third
+
+pub across-glue_three-requires-clause-left : goal.across-glue_three-requires-clause-left
+across-glue_three-requires-clause-left t c =
+    let o = c.in-Some.seen in
+    (crossed c.args.levels.now c.piece.new.levels c.across.new.levels c.across-2.new.levels c.args.h c.args.c o.child o.left o.right c.in-Ok-piece.middle c.in-Ok-across.front c.in-Ok-across-2.back c.args.span.now o.span.now c.in-Ok.part
+    c.requires.sound c.requires.c c.in-Some.ensures.left c.in-Some.ensures.right c.in-Some.ensures.level c.in-Ok.ensures
+    c.in-Ok-piece.ensures.ok c.in-Ok-piece.ensures.level c.in-Ok-across.ensures.ok c.in-Ok-across.ensures.level c.in-Ok-across-2.ensures.ok c.in-Ok-across-2.ensures.level).front_apart
+
+pub across-glue_three-requires-clause-middle : goal.across-glue_three-requires-clause-middle
+across-glue_three-requires-clause-middle t c =
+    let o = c.in-Some.seen in
+    (crossed c.args.levels.now c.piece.new.levels c.across.new.levels c.across-2.new.levels c.args.h c.args.c o.child o.left o.right c.in-Ok-piece.middle c.in-Ok-across.front c.in-Ok-across-2.back c.args.span.now o.span.now c.in-Ok.part
+    c.requires.sound c.requires.c c.in-Some.ensures.left c.in-Some.ensures.right c.in-Some.ensures.level c.in-Ok.ensures
+    c.in-Ok-piece.ensures.ok c.in-Ok-piece.ensures.level c.in-Ok-across.ensures.ok c.in-Ok-across.ensures.level c.in-Ok-across-2.ensures.ok c.in-Ok-across-2.ensures.level).middle_apart
+
+pub across-returns-in-Ok-glue_three-clause-level : goal.across-returns-in-Ok-glue_three-clause-level
+across-returns-in-Ok-glue_three-clause-level t c =
+    let o = c.in-Some.seen in
+    c.in-Ok-glue_three.ensures.level
+    ∙ (crossed c.args.levels.now c.piece.new.levels c.across.new.levels c.across-2.new.levels c.args.h c.args.c o.child o.left o.right c.in-Ok-piece.middle c.in-Ok-across.front c.in-Ok-across-2.back c.args.span.now o.span.now c.in-Ok.part
+    c.requires.sound c.requires.c c.in-Some.ensures.left c.in-Some.ensures.right c.in-Some.ensures.level c.in-Ok.ensures
+    c.in-Ok-piece.ensures.ok c.in-Ok-piece.ensures.level c.in-Ok-across.ensures.ok c.in-Ok-across.ensures.level c.in-Ok-across-2.ensures.ok c.in-Ok-across-2.ensures.level).is
+
+pub across-returns-in-Err-glue_three-clause-over : goal.across-returns-in-Err-glue_three-clause-over
+across-returns-in-Err-glue_three-clause-over t c e =
+    let o = c.in-Some.seen in
+    let is = ap level_size (crossed c.args.levels.now c.piece.new.levels c.across.new.levels c.across-2.new.levels c.args.h c.args.c o.child o.left o.right c.in-Ok-piece.middle c.in-Ok-across.front c.in-Ok-across-2.back c.args.span.now o.span.now c.in-Ok.part
+    c.requires.sound c.requires.c c.in-Some.ensures.left c.in-Some.ensures.right c.in-Some.ensures.level c.in-Ok.ensures
+    c.in-Ok-piece.ensures.ok c.in-Ok-piece.ensures.level c.in-Ok-across.ensures.ok c.in-Ok-across.ensures.level c.in-Ok-across-2.ensures.ok c.in-Ok-across-2.ensures.level).is in
+    omega (arith, is, c.in-Err-glue_three.ensures.over e)
+
+pub both-across-requires : goal.both-across-requires
+both-across-requires t c =
+    let o = c.in-Some.seen in
+    let less = smaller _ _ _ _ o.span.now c.in-Some.ensures.level in
+    (omega (arith, less.child, c.decreases), (c.requires.sound, (c.in-Some.ensures.child, c.requires.h)))
+
+pub both-returns-in-Err-clause-over : goal.both-returns-in-Err-clause-over
+both-returns-in-Err-clause-over t c e =
+    let o = c.in-Some.seen in
+    let a = c.args.levels.now in
+    let w = both_within o.span.now _ _ _ _ (level_of a c.args.h) c.in-Some.ensures.level in
+    over_later c.args.limit _ _ _ (c.in-Err.ensures.over e) (ap (λ x. across_level (both_level (level_of a o.child)) (level_of a o.child) x (level_of a c.args.h)) c.in-Ok.ensures) w.second
+
+pub both-both-requires : goal.both-both-requires
+both-both-requires t c =
+    let o = c.in-Some.seen in
+    let a = c.args.levels.now in
+    let one = c.in-Ok-across.ensures.ok in
+    let less = smaller _ _ _ _ o.span.now c.in-Some.ensures.level in
+    let l1 = stays a _ _ c.requires.sound one o.left c.in-Some.ensures.left in
+    let h1 = stays a _ _ c.requires.sound one c.args.h c.requires.h in
+    (omega (arith, less.left, l1.size_same, h1.size_same, c.decreases), (one.sound, (l1.lent, h1.lent)))
+
+pub both-returns-in-Err-both-clause-over : goal.both-returns-in-Err-both-clause-over
+both-returns-in-Err-both-clause-over t c e =
+    let o = c.in-Some.seen in
+    let a = c.args.levels.now in
+    let one = c.in-Ok-across.ensures.ok in
+    let w = both_within o.span.now _ _ _ _ (level_of a c.args.h) c.in-Some.ensures.level in
+    over_later c.args.limit _ _ _ (c.in-Err-both.ensures.over e)
+    (both_later a c.across.new.levels o.left c.args.h (stays a _ _ c.requires.sound one o.left c.in-Some.ensures.left) (stays a _ _ c.requires.sound one c.args.h c.requires.h))
+    w.first
+
+pub both-both-requires-2 : goal.both-both-requires-2
+both-both-requires-2 t c =
+    let o = c.in-Some.seen in
+    let a = c.args.levels.now in
+    let one = c.in-Ok-across.ensures.ok in
+    let two = c.in-Ok-both.ensures.ok in
+    let less = smaller _ _ _ _ o.span.now c.in-Some.ensures.level in
+    let r2 = stays_two a _ _ _ _ c.requires.sound one two o.right c.in-Some.ensures.right in
+    let h2 = stays_two a _ _ _ _ c.requires.sound one two c.args.h c.requires.h in
+    (omega (arith, less.right, r2.size_same, h2.size_same, c.decreases), (two.sound, (r2.lent, h2.lent)))
+
+pub both-returns-in-Err-both-2-clause-over : goal.both-returns-in-Err-both-2-clause-over
+both-returns-in-Err-both-2-clause-over t c e =
+    let o = c.in-Some.seen in
+    let a = c.args.levels.now in
+    let one = c.in-Ok-across.ensures.ok in
+    let two = c.in-Ok-both.ensures.ok in
+    let w = both_within o.span.now _ _ _ _ (level_of a c.args.h) c.in-Some.ensures.level in
+    over_later c.args.limit _ _ _ (c.in-Err-both-2.ensures.over e)
+    (both_later a c.both.new.levels o.right c.args.h (stays_two a _ _ _ _ c.requires.sound one two o.right c.in-Some.ensures.right) (stays_two a _ _ _ _ c.requires.sound one two c.args.h c.requires.h))
+    w.third
+
+pub both-glue_three-requires-clause-left : goal.both-glue_three-requires-clause-left
+both-glue_three-requires-clause-left t c =
+    let o = c.in-Some.seen in
+    (met c.args.levels.now c.across.new.levels c.both.new.levels c.both-2.new.levels c.args.g c.args.h o.child o.left o.right c.in-Ok-across.middle c.in-Ok-both.front c.in-Ok-both-2.back c.in-Ok.span o.span.now
+    c.requires.sound c.requires.h c.in-Some.ensures.left c.in-Some.ensures.right c.in-Some.ensures.level c.in-Ok.ensures
+    c.in-Ok-across.ensures.ok c.in-Ok-across.ensures.level c.in-Ok-both.ensures.ok c.in-Ok-both.ensures.level c.in-Ok-both-2.ensures.ok c.in-Ok-both-2.ensures.level).front_apart
+
+pub both-glue_three-requires-clause-middle : goal.both-glue_three-requires-clause-middle
+both-glue_three-requires-clause-middle t c =
+    let o = c.in-Some.seen in
+    (met c.args.levels.now c.across.new.levels c.both.new.levels c.both-2.new.levels c.args.g c.args.h o.child o.left o.right c.in-Ok-across.middle c.in-Ok-both.front c.in-Ok-both-2.back c.in-Ok.span o.span.now
+    c.requires.sound c.requires.h c.in-Some.ensures.left c.in-Some.ensures.right c.in-Some.ensures.level c.in-Ok.ensures
+    c.in-Ok-across.ensures.ok c.in-Ok-across.ensures.level c.in-Ok-both.ensures.ok c.in-Ok-both.ensures.level c.in-Ok-both-2.ensures.ok c.in-Ok-both-2.ensures.level).middle_apart
+
+pub both-returns-in-Ok-glue_three-clause-level : goal.both-returns-in-Ok-glue_three-clause-level
+both-returns-in-Ok-glue_three-clause-level t c =
+    let o = c.in-Some.seen in
+    c.in-Ok-glue_three.ensures.level
+    ∙ (met c.args.levels.now c.across.new.levels c.both.new.levels c.both-2.new.levels c.args.g c.args.h o.child o.left o.right c.in-Ok-across.middle c.in-Ok-both.front c.in-Ok-both-2.back c.in-Ok.span o.span.now
+    c.requires.sound c.requires.h c.in-Some.ensures.left c.in-Some.ensures.right c.in-Some.ensures.level c.in-Ok.ensures
+    c.in-Ok-across.ensures.ok c.in-Ok-across.ensures.level c.in-Ok-both.ensures.ok c.in-Ok-both.ensures.level c.in-Ok-both-2.ensures.ok c.in-Ok-both-2.ensures.level).is
+
+pub both-returns-clause-over : goal.both-returns-clause-over
+both-returns-clause-over t c e =
+    let o = c.in-Some.seen in
+    let is = ap level_size (met c.args.levels.now c.across.new.levels c.both.new.levels c.both-2.new.levels c.args.g c.args.h o.child o.left o.right c.in-Ok-across.middle c.in-Ok-both.front c.in-Ok-both-2.back c.in-Ok.span o.span.now
+    c.requires.sound c.requires.h c.in-Some.ensures.left c.in-Some.ensures.right c.in-Some.ensures.level c.in-Ok.ensures
+    c.in-Ok-across.ensures.ok c.in-Ok-across.ensures.level c.in-Ok-both.ensures.ok c.in-Ok-both.ensures.level c.in-Ok-both-2.ensures.ok c.in-Ok-both-2.ensures.level).is in
+    omega (arith, is, c.in-Err-glue_three.ensures.over e)
+
+pub piece-returns-in-Err-clause-over : goal.piece-returns-in-Err-clause-over
+piece-returns-in-Err-clause-over t c e =
+    piece_over c.args.levels.now c.args.c c.args.d _ _ c.args.limit c.args.part c.in-Some.span c.requires.sound c.in-Some.is c.in-Some-c.is c.requires.c c.in-Some-d.is c.requires.d (c.in-Err.ensures.over e)
+
+pub piece-returns-in_default-child-clause-level : goal.piece-returns-in_default-child-clause-level
+piece-returns-in_default-child-clause-level t c =
+    piece_none c.args.levels.now c.both.new.levels c.args.c c.args.d c.in-Ok-both.child _ _ c.args.part c.in-Some.span c.requires.sound c.in-Some.is c.in-Some-c.is c.requires.c c.in-Some-d.is c.requires.d c.in_default-child.is c.in-Ok-both.ensures.level
+
+pub piece-returns-clause-level : goal.piece-returns-clause-level
+piece-returns-clause-level t c =
+    c.in_Ok-whole.ensures.level
+    ∙ piece_some c.args.levels.now c.both.new.levels c.args.c c.args.d c.in-Ok-both.child _ _ _ c.args.part c.in-Some.span c.requires.sound c.in-Some.is c.in-Some-c.is c.requires.c c.in-Some-d.is c.requires.d c.in-Some-child.is c.in-Ok-both.ensures.ok c.in-Ok-both.ensures.level

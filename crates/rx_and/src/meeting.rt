@@ -1,0 +1,193 @@
+//! What two levels have in common.
+
+ghost use Rattle.std.specs.Prelude.{◌≡◌, ◌<◌, ◌≤◌, ℕ, List, [], ◌∷◌, Option, Some, None, IfOk, IfErr, OnErr};
+ghost use Rattle.rx_value.specs.Spans.{meet_span};
+ghost use Rattle.rx_tree.specs.Tree.{Level, level_size};
+ghost use Rattle.rx_tree.specs.Tree.Level.{end, item as one_item};
+ghost use Rattle.rx_tree.specs.Meet.{part_of, put_part, meet_child, across as across_level, both as both_level};
+ghost use Rattle.rx_level.specs.Store.{IsSound};
+ghost use Rattle.rx_level.specs.Step.{Owns, Step, Lent, level_of};
+
+use crate::gluing::glue_three;
+use rx_graph::GraphFault;
+use rx_level::{Item, Levels, copy_end, copy_span};
+use rx_value::{Span, meet};
+use std::alloc::{AllocError, Global};
+
+// A copy of the common part of two spans.
+fn common_span(alloc: Global, s: &Span, t: &Span) -> Result<Option<Span>, AllocError>
+    ensures { IfOk result (λ part. part ≡ meet_span s.now t.now) }
+{
+    let Some((lo, hi)) = meet(s, t) else {
+        return Ok(None);
+    };
+    let lo = copy_end(alloc, lo)?;
+    let hi = copy_end(alloc, hi)?;
+    Ok(Some(Span { lo, hi }))
+}
+
+// A level of one item over a lent level.
+fn alone(levels: &mut Levels, span: Span, child: Option<usize>) -> Result<Option<usize>, AllocError>
+    requires sound { IsSound levels.old [] }
+    requires child { Lent levels.old [] child }
+    ensures ok { IfOk result (λ r. Step levels.old levels.new [] (r ∷ [])) }
+    ensures level { IfOk result (λ r. level_of levels.new r ≡ one_item span (level_of levels.old child) end) }
+    ensures err { OnErr result (Step levels.old levels.new [] []) }
+{
+    levels.hold(child)?;
+    let whole = levels.branch(Item { span, child }, None, None)?;
+    Ok(whole)
+}
+
+// What an item of the common part of two items' spans, where there is one, leads to: nothing where the
+// children have nothing in common.
+#[cycle(meet)]
+fn piece(
+    levels: &mut Levels,
+    alloc: Global,
+    limit: u64,
+    part: Option<Span>,
+    c: Option<usize>,
+    d: Option<usize>,
+) -> Result<Option<usize>, GraphFault>
+    requires sound { IsSound levels.old [] }
+    requires c { Lent levels.old [] c }
+    requires d { Lent levels.old [] d }
+    ensures ok { IfOk result (λ r. Step levels.old levels.new [] (r ∷ [])) }
+    ensures level { IfOk result (λ r. level_of levels.new r ≡ put_part (part_of part (meet_child (both_level (level_of levels.old c)) (level_of levels.old c) (level_of levels.old d))) end) }
+    ensures over { IfErr result (λ fault. fault ≡ GraphFault.OverLimit → limit < level_size (put_part (part_of part (meet_child (both_level (level_of levels.old c)) (level_of levels.old c) (level_of levels.old d))) end)) }
+    ensures err { OnErr result (Step levels.old levels.new [] []) }
+{
+    let Some(span) = part else {
+        return Ok(None);
+    };
+    let Some(_) = c else {
+        let Ok(whole) = alone(levels, span, d) else {
+            return Err(GraphFault::NoMemory);
+        };
+        return Ok(whole);
+    };
+    let Some(_) = d else {
+        let Ok(whole) = alone(levels, span, c) else {
+            return Err(GraphFault::NoMemory);
+        };
+        return Ok(whole);
+    };
+    let child = match both(levels, alloc, limit, c, d) {
+        Ok(child) => child,
+        Err(fault) => return Err(fault),
+    };
+    let Some(_) = child else {
+        return Ok(None);
+    };
+    let Ok(whole) = levels.branch(Item { span, child }, None, None) else {
+        return Err(GraphFault::NoMemory);
+    };
+    Ok(whole)
+}
+
+// What an item and a lent level have in common.
+#[cycle(meet)]
+fn across(
+    levels: &mut Levels,
+    alloc: Global,
+    limit: u64,
+    span: &Span,
+    c: Option<usize>,
+    h: Option<usize>,
+) -> Result<Option<usize>, GraphFault>
+    requires sound { IsSound levels.old [] }
+    requires c { Lent levels.old [] c }
+    requires h { Lent levels.old [] h }
+    ensures ok { IfOk result (λ r. Step levels.old levels.new [] (r ∷ [])) }
+    ensures level { IfOk result (λ r. level_of levels.new r ≡ across_level (both_level (level_of levels.old c)) (level_of levels.old c) span.now (level_of levels.old h)) }
+    ensures small { IfOk result (λ r. level_size (level_of levels.new r) ≤ limit) }
+    ensures over { IfErr result (λ fault. fault ≡ GraphFault.OverLimit → limit < level_size (across_level (both_level (level_of levels.old c)) (level_of levels.old c) span.now (level_of levels.old h))) }
+    ensures err { OnErr result (Step levels.old levels.new [] []) }
+{
+    let Some(seen) = levels.look(h) else {
+        return Ok(None);
+    };
+    let child = seen.child;
+    let left = seen.left;
+    let right = seen.right;
+    let Ok(part) = common_span(alloc, span, seen.span) else {
+        return Err(GraphFault::NoMemory);
+    };
+    let middle = match piece(levels, alloc, limit, part, c, child) {
+        Ok(middle) => middle,
+        Err(fault) => return Err(fault),
+    };
+    let front = match across(levels, alloc, limit, span, c, left) {
+        Ok(front) => front,
+        Err(fault) => {
+            levels.free(middle);
+            return Err(fault);
+        }
+    };
+    let back = match across(levels, alloc, limit, span, c, right) {
+        Ok(back) => back,
+        Err(fault) => {
+            levels.free(front);
+            levels.free(middle);
+            return Err(fault);
+        }
+    };
+    match glue_three(levels, limit, front, middle, back) {
+        Ok(whole) => Ok(whole),
+        Err(fault) => Err(fault),
+    }
+}
+
+/// What two lent levels have in common, item by item of the first. OverLimit comes where it has more
+/// items than the limit, counted at each place.
+#[cycle(meet)]
+pub fn both(
+    levels: &mut Levels,
+    alloc: Global,
+    limit: u64,
+    g: Option<usize>,
+    h: Option<usize>,
+) -> Result<Option<usize>, GraphFault>
+    requires sound { IsSound levels.old [] }
+    requires g { Lent levels.old [] g }
+    requires h { Lent levels.old [] h }
+    ensures ok { IfOk result (λ r. Step levels.old levels.new [] (r ∷ [])) }
+    ensures level { IfOk result (λ r. level_of levels.new r ≡ both_level (level_of levels.old g) (level_of levels.old h)) }
+    ensures small { IfOk result (λ r. level_size (level_of levels.new r) ≤ limit) }
+    ensures over { IfErr result (λ fault. fault ≡ GraphFault.OverLimit → limit < level_size (both_level (level_of levels.old g) (level_of levels.old h))) }
+    ensures err { OnErr result (Step levels.old levels.new [] []) }
+{
+    let Some(seen) = levels.look(g) else {
+        return Ok(None);
+    };
+    let child = seen.child;
+    let left = seen.left;
+    let right = seen.right;
+    let Ok(span) = copy_span(alloc, seen.span) else {
+        return Err(GraphFault::NoMemory);
+    };
+    let middle = match across(levels, alloc, limit, &span, child, h) {
+        Ok(middle) => middle,
+        Err(fault) => return Err(fault),
+    };
+    let front = match both(levels, alloc, limit, left, h) {
+        Ok(front) => front,
+        Err(fault) => {
+            levels.free(middle);
+            return Err(fault);
+        }
+    };
+    let back = match both(levels, alloc, limit, right, h) {
+        Ok(back) => back,
+        Err(fault) => {
+            levels.free(front);
+            levels.free(middle);
+            return Err(fault);
+        }
+    };
+    match glue_three(levels, limit, front, middle, back) {
+        Ok(whole) => Ok(whole),
+        Err(fault) => Err(fault),
+    }
+}
