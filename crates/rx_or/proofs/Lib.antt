@@ -1,0 +1,10 @@
+pub mod Order
+pub mod Reaching
+pub mod Compared
+pub mod Opened
+pub mod Covered
+pub mod Welded
+pub mod Laid
+pub mod Aside
+pub mod Following
+pub mod Roots

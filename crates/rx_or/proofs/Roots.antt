@@ -1,0 +1,156 @@
+-- Either of two graphs, over the arena's map.
+use Rattle.std.proofs.Common.{◌≡◌, ◌||◌, ◌-◌, ◌^◌, ◌<◌, ◌≤◌, ℕ, Bool, true, false, cond, List, [], ◌∷◌, Option, Some, None, arith, refl, ap, ap₂, sym, ◌∙◌, subst}
+use Rattle.slab.specs.Slab.{Slab}
+use Rattle.rx_value.specs.declared.order.End.{End}
+use Rattle.rx_tree.specs.Tree.{Level, Tree, level_size, size}
+use Rattle.rx_tree.specs.Tree.Level.{end, item}
+use Rattle.rx_tree.specs.Tree.Tree.{everything, items}
+use Rattle.rx_tree.specs.Member.{IsTuple, holds}
+use Rattle.rx_tree.specs.Canonical.{ArePlaced, IsCanonical}
+use Rattle.rx_tree.specs.Union.{is_all, lay_all, either_child, tree_or}
+use Rattle.rx_tree.proofs.Either.{or_canonical, or_holds}
+use Rattle.rx_level.specs.declared.nodes.Node.{Node}
+use Rattle.rx_level.specs.Store.{total_held, roots_in}
+use Rattle.rx_level.specs.Step.{Owns, Step, level_of}
+use Rattle.rx_level.proofs.Totals.{totals}
+use Rattle.rx_graph.specs.declared.handles.Root.{Root}
+use Rattle.rx_graph.specs.declared.handles.Root.TheVariants.{Everything, Nothing, Items}
+use Rattle.rx_graph.specs.Graph.{Graph, Steps, IsHeld, AreCanonical, handle_count, times, tree_in}
+use Rattle.rx_graph.proofs.Steps.{canonical_given}
+use Rattle.rx_or.specs.Below.{union_below, unless_all}
+use Rattle.rx_or.proofs.Opened.{some_level}
+
+times_first : (g h : Root) → 1 ≤ times g (g ∷ h ∷ [])
+times_first Everything h = omega arith
+times_first Nothing h = omega arith
+times_first (Items k) h = grind arith
+
+times_second : (g h : Root) → 1 ≤ times h (g ∷ h ∷ [])
+times_second g Everything = omega arith
+times_second g Nothing = omega arith
+times_second g (Items k) = grind arith
+
+-- the trees of two held graphs are canonical
+pub canonical_both : (old : Graph) (g h : Root) → IsHeld old (g ∷ h ∷ []) → AreCanonical old → IsCanonical old.nullable (tree_in old g) × IsCanonical old.nullable (tree_in old h)
+canonical_both old g h held was = ((was g (omega (arith, held g, times_first g h))), (was h (omega (arith, held h, times_second g h))))
+
+-- either of two canonical trees is given in their place
+pub given_or : (old new : Graph) (g h r : Root) → IsHeld old (g ∷ h ∷ []) → Steps old new (g ∷ h ∷ []) (r ∷ []) → tree_in new r ≡ tree_or old.nullable (tree_in old g) (tree_in old h) → AreCanonical old → AreCanonical new
+given_or old new g h r held step is was =
+    let both = canonical_both old g h held was in
+    canonical_given old new (g ∷ h ∷ []) r step
+    (subst (λ (t : Tree). IsCanonical old.nullable t) (sym is) (or_canonical old.nullable (tree_in old g) (tree_in old h) both.0 both.1))
+    was
+
+pub keys_or : (old new : Graph) (g h r : Root) → IsHeld old (g ∷ h ∷ []) → tree_in new r ≡ tree_or old.nullable (tree_in old g) (tree_in old h) → AreCanonical old
+    → (ps : List End) → IsTuple old.nullable ps → holds (tree_in new r) ps ≡ (holds (tree_in old g) ps || holds (tree_in old h) ps)
+keys_or old new g h r held is was ps tuple =
+    let both = canonical_both old g h held was in
+    ap (λ t. holds t ps) is ∙ or_holds old.nullable (tree_in old g) (tree_in old h) ps both.0 both.1 tuple
+
+-- where both are spent and none is given there is room for one
+pub few_left : (old mid new : Graph) (taken levels : Slab Node) (g h : ℕ) (o : Option ℕ) → handle_count old < 2 ^ 32
+    → taken ≡ old.store → mid ≡ record old { store = mid.store } → new ≡ record mid { store = levels }
+    → Step taken levels (Some g ∷ Some h ∷ []) (o ∷ []) → o ≡ None
+    → handle_count new < 2 ^ 32 - 1
+few_left old mid new taken levels g h o few is_taken is_mid is_new step absent =
+    let all : new.all ≡ old.all = ap (λ x. x.all) is_new ∙ ap (λ x. x.all) is_mid in
+    let none : new.none ≡ old.none = ap (λ x. x.none) is_new ∙ ap (λ x. x.none) is_mid in
+    let stored : total_held new.store ≡ total_held levels = ap (λ x. total_held x.store) is_new in
+    let before : total_held taken ≡ total_held old.store = ap total_held is_taken in
+    let empty : roots_in (o ∷ []) ≡ 0 = ap (λ x. roots_in (x ∷ [])) absent in
+    omega (arith, few, all, none, stored, before, empty, totals taken levels (Some g ∷ Some h ∷ []) (o ∷ []) (λ m. step.held m))
+
+placed_of : (parts : List Bool) (l : Level) → IsCanonical parts (items l) → ArePlaced parts l
+placed_of parts end is = absurd is
+placed_of parts (item s c rest) is = is.placed
+
+-- the levels of two held graphs, taken out of the arena, are in their places
+pub placed_taken : (old mid : Graph) (taken : Slab Node) (parts : List Bool) (g h : ℕ) → taken ≡ old.store → mid ≡ record old { store = mid.store } → parts ≡ mid.nullable
+    → IsHeld old (Items g ∷ Items h ∷ []) → AreCanonical old → ArePlaced parts (level_of taken (Some g)) × ArePlaced parts (level_of taken (Some h))
+placed_taken old mid taken parts g h is_taken is_mid is_parts held was =
+    let both = canonical_both old (Items g) (Items h) held was in
+    let same : parts ≡ old.nullable = is_parts ∙ ap (λ x. x.nullable) is_mid in (
+      subst (λ (p : List Bool). ArePlaced p (level_of taken (Some g))) (sym same) (subst (λ (s : Slab Node). ArePlaced old.nullable (level_of s (Some g))) (sym is_taken) (placed_of old.nullable (level_of old.store (Some g)) both.0)),
+      subst (λ (p : List Bool). ArePlaced p (level_of taken (Some h))) (sym same) (subst (λ (s : Slab Node). ArePlaced old.nullable (level_of s (Some h))) (sym is_taken) (placed_of old.nullable (level_of old.store (Some h)) both.1)),
+    )
+
+some_by : (b : Bool) (l x : Level) → x ≡ cond b end l → (x ≡ end → ⊥) → items x ≡ cond b everything (items l)
+some_by true l x is some = absurd (some is)
+some_by false l x is some = ap items is
+
+-- the level that stands for either of two is a tree's where it has items
+pub tree_some : (parts : List Bool) (g h x : Level) → x ≡ unless_all parts (lay_all (union_below parts) g h) → (x ≡ end → ⊥) → items x ≡ tree_or parts (items g) (items h)
+tree_some [] g h x is some = absurd (some is)
+tree_some (n ∷ ns) g h x is some = some_by (is_all n (lay_all (either_child ns) g h)) (lay_all (either_child ns) g h) x is some
+
+none_by : (n : Bool) (ns : List Bool) (b : Bool) (l : Level) → end ≡ cond b end l → IsCanonical (n ∷ ns) (cond b everything (items l)) → everything ≡ cond b everything (items l)
+none_by n ns true l is canonical = refl
+none_by n ns false l is canonical = absurd (subst (λ (x : Level). IsCanonical (n ∷ ns) (items x)) (sym is) canonical)
+
+-- and everything where it has none
+pub tree_none : (parts : List Bool) (g h : Level) → IsCanonical parts (items g) → IsCanonical parts (items h) → end ≡ unless_all parts (lay_all (union_below parts) g h) → everything ≡ tree_or parts (items g) (items h)
+tree_none [] g h first second is = refl
+tree_none (n ∷ ns) g h first second is =
+    none_by n ns (is_all n (lay_all (either_child ns) g h)) (lay_all (either_child ns) g h) is (or_canonical (n ∷ ns) (items g) (items h) first second)
+
+size_by : (b : Bool) (l : Level) → level_size (cond b end l) ≡ size (cond b everything (items l))
+size_by true l = refl
+size_by false l = refl
+
+-- its size is the tree's
+pub tree_or_size : (parts : List Bool) (g h : Level) → level_size (unless_all parts (lay_all (union_below parts) g h)) ≡ size (tree_or parts (items g) (items h))
+tree_or_size [] g h = refl
+tree_or_size (n ∷ ns) g h = size_by (is_all n (lay_all (either_child ns) g h)) (lay_all (either_child ns) g h)
+
+-- what is said of the levels that were taken, of those in the arena
+pub record AreBack (old : Graph) (taken : Slab Node) (parts : List Bool) (g h : ℕ) : Type 0 where
+  pub level : unless_all parts (lay_all (union_below parts) (level_of taken (Some g)) (level_of taken (Some h))) ≡ unless_all old.nullable (lay_all (union_below old.nullable) (level_of old.store (Some g)) (level_of old.store (Some h)))
+
+pub are_back : (old mid : Graph) (taken : Slab Node) (parts : List Bool) (g h : ℕ) → taken ≡ old.store → mid ≡ record old { store = mid.store } → parts ≡ mid.nullable → AreBack old taken parts g h
+are_back old mid taken parts g h is_taken is_mid is_parts =
+    let same : parts ≡ old.nullable = is_parts ∙ ap (λ x. x.nullable) is_mid in
+    record { level = ap₂ (λ p s. unless_all p (lay_all (union_below p) (level_of s (Some g)) (level_of s (Some h)))) same is_taken }
+
+-- a level with items that is put back is the tree of its root
+pub some_tree : (old mid new : Graph) (taken levels : Slab Node) (parts : List Bool) (g h key : ℕ) (o : Option ℕ) (r : Root)
+    → taken ≡ old.store → mid ≡ record old { store = mid.store } → parts ≡ mid.nullable → new ≡ record mid { store = levels }
+    → Owns taken (Some g ∷ Some h ∷ [])
+    → Step taken levels (Some g ∷ Some h ∷ []) (o ∷ []) → o ≡ Some key → r ≡ Items key
+    → level_of levels o ≡ unless_all parts (lay_all (union_below parts) (level_of taken (Some g)) (level_of taken (Some h)))
+    → tree_in new r ≡ tree_or old.nullable (tree_in old (Items g)) (tree_in old (Items h))
+some_tree old mid new taken levels parts g h key o r is_taken is_mid is_parts is_new owns step is is_root level =
+    let back = are_back old mid taken parts g h is_taken is_mid is_parts in
+    let stored : new.store ≡ levels = ap (λ x. x.store) is_new in
+    let some : level_of levels o ≡ end → ⊥ = some_level levels step.sound o (λ m. omega (arith, step.held m, owns.owned m)) (λ none. cc (sym is ∙ none)) in
+    ap (tree_in new) is_root
+    ∙ ap₂ (λ s k. items (level_of s k)) stored (sym is)
+    ∙ tree_some old.nullable (level_of old.store (Some g)) (level_of old.store (Some h)) (level_of levels o) (level ∙ back.level) some
+
+-- one without items is everything
+pub none_tree : (old mid : Graph) (taken levels : Slab Node) (parts : List Bool) (g h : ℕ) (o : Option ℕ)
+    → taken ≡ old.store → mid ≡ record old { store = mid.store } → parts ≡ mid.nullable
+    → IsHeld old (Items g ∷ Items h ∷ []) → AreCanonical old → o ≡ None
+    → level_of levels o ≡ unless_all parts (lay_all (union_below parts) (level_of taken (Some g)) (level_of taken (Some h)))
+    → everything ≡ tree_or old.nullable (tree_in old (Items g)) (tree_in old (Items h))
+none_tree old mid taken levels parts g h o is_taken is_mid is_parts held was is level =
+    let back = are_back old mid taken parts g h is_taken is_mid is_parts in
+    let both = canonical_both old (Items g) (Items h) held was in
+    tree_none old.nullable (level_of old.store (Some g)) (level_of old.store (Some h)) both.0 both.1 (sym (ap (level_of levels) is) ∙ level ∙ back.level)
+
+-- the size of the tree of either, from that of its level
+pub size_back : (old mid : Graph) (taken : Slab Node) (parts : List Bool) (g h : ℕ)
+    → taken ≡ old.store → mid ≡ record old { store = mid.store } → parts ≡ mid.nullable
+    → level_size (unless_all parts (lay_all (union_below parts) (level_of taken (Some g)) (level_of taken (Some h)))) ≡ size (tree_or old.nullable (tree_in old (Items g)) (tree_in old (Items h)))
+size_back old mid taken parts g h is_taken is_mid is_parts =
+    ap level_size ((are_back old mid taken parts g h is_taken is_mid is_parts).level) ∙ tree_or_size old.nullable (level_of old.store (Some g)) (level_of old.store (Some h))
+
+-- the same of two roots with items
+pub given_items_or : (old new : Graph) (g h r : Root) (i j : ℕ) → g ≡ Items i → h ≡ Items j → IsHeld old (g ∷ h ∷ []) → Steps old new (Items i ∷ Items j ∷ []) (r ∷ []) → tree_in new r ≡ tree_or old.nullable (tree_in old (Items i)) (tree_in old (Items j)) → AreCanonical old → AreCanonical new
+given_items_or old new g h r i j is_g is_h held step is was =
+    given_or old new (Items i) (Items j) r (subst (λ (x : Root). IsHeld old (Items i ∷ x ∷ [])) is_h (subst (λ (x : Root). IsHeld old (x ∷ h ∷ [])) is_g held)) step is was
+
+pub keys_items_or : (old new : Graph) (g h r : Root) (i j : ℕ) → g ≡ Items i → h ≡ Items j → IsHeld old (g ∷ h ∷ []) → tree_in new r ≡ tree_or old.nullable (tree_in old (Items i)) (tree_in old (Items j)) → AreCanonical old
+    → (ps : List End) → IsTuple old.nullable ps → holds (tree_in new r) ps ≡ (holds (tree_in old g) ps || holds (tree_in old h) ps)
+keys_items_or old new g h r i j is_g is_h held is was ps tuple =
+    keys_or old new g h r held (is ∙ ap₂ (λ x y. tree_or old.nullable (tree_in old x) (tree_in old y)) (sym is_g) (sym is_h)) was ps tuple

@@ -1,0 +1,25 @@
+use Rattle.std.proofs.Common.{◌+◌, ◌*◌, ◌^◌, length}
+use Rattle.rx_tree.specs.Join.{length_of}
+use Rattle.rx_level.specs.Step.{level_of}
+use Rattle.rx_or.proofs.uniting.+unite.Given as goal
+
+abbrev pub decreases-lay_items : goal.decreases-lay_items
+decreases-lay_items l = 16 * 2 ^ 64 * length l.parts.now + 8 * 2 ^ 64 + length_of (level_of l.levels.now l.g)
+
+abbrev pub decreases-lay_item : goal.decreases-lay_item
+decreases-lay_item l = 16 * 2 ^ 64 * length l.parts.now + 4 * length_of (level_of l.levels.now l.root) + 4
+
+abbrev pub decreases-lay_over : goal.decreases-lay_over
+decreases-lay_over l = 16 * 2 ^ 64 * length l.parts.now + 4 * length_of (level_of l.levels.now l.root) + 3
+
+abbrev pub decreases-lay_from_first : goal.decreases-lay_from_first
+decreases-lay_from_first l = 16 * 2 ^ 64 * length l.parts.now + 4 * length_of (level_of l.levels.now l.root) + 2
+
+abbrev pub decreases-overlay : goal.decreases-overlay
+decreases-overlay l = 16 * 2 ^ 64 * length l.parts.now + 4 * length_of (level_of l.levels.now l.first.rest) + 5
+
+abbrev pub decreases-left_over : goal.decreases-left_over
+decreases-left_over l = 16 * 2 ^ 64 * length l.parts.now + 4 * length_of (level_of l.levels.now l.rest) + 4
+
+abbrev pub decreases-unite_below : goal.decreases-unite_below
+decreases-unite_below l = 16 * 2 ^ 64 * length l.parts.now + 1

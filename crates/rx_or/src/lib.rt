@@ -1,0 +1,15 @@
+//! Either of two interval graphs.
+#![tactic(auto)]
+
+mod covering;
+mod cutting;
+mod either;
+mod graphs;
+mod pieces;
+#[cfg(test)]
+mod tests;
+mod uniting;
+mod welding;
+mod wholes;
+
+pub use graphs::or;

@@ -1,0 +1,343 @@
+//! The items of one level laid over another.
+
+ghost use Rattle.std.specs.Prelude.{◌≡◌, ◌<◌, Bool, List, [], ◌∷◌, Option, Some, None, IfOk, OnErr};
+ghost use Rattle.rx_value.specs.Spans.{IsAtMost, IsBelow};
+ghost use Rattle.rx_tree.specs.Tree.{Level};
+ghost use Rattle.rx_tree.specs.Tree.Level.{item as one_item, end as no_items};
+ghost use Rattle.rx_tree.specs.Canonical.{ArePlaced};
+ghost use Rattle.rx_tree.specs.Union.{lay, lay_all};
+ghost use Rattle.rx_level.specs.Step.{Owns, Step, level_of};
+ghost use Rattle.rx_or.specs.declared.uniting.Stand.TheVariants.{Behind, Before, Over};
+ghost use Rattle.rx_or.specs.declared.uniting.Beside.TheVariants.{Left, Right};
+ghost use Rattle.rx_or.specs.Below.{union_below, past, ArePlacedBelow};
+
+use crate::covering::cover;
+use crate::pieces::spread;
+use crate::welding::{meld, shared_item, weld_front};
+use crate::wholes::is_all;
+use rx_level::{First, Item, Levels, join, take_first};
+use rx_value::{Span, compare_ends};
+use std::alloc::{AllocError, Global};
+use std::cmp::Ordering;
+
+// How a span stands to that of the first item of a level.
+#[derive(Clone, Copy)]
+enum Stand {
+    /// The first item ends before it.
+    Behind,
+    /// It ends before the first item.
+    Before,
+    /// The two overlap.
+    Over,
+}
+
+// On which side of an item a span lies that doesn't even touch it.
+#[derive(Clone, Copy)]
+enum Beside {
+    Left,
+    Right,
+    Neither,
+}
+
+fn place_beside(span: &Span, item: &Span) -> Beside
+    ensures right { result ≡ Right → IsBelow item.now.hi span.now.lo }
+    ensures left { result ≡ Left → IsBelow span.now.hi item.now.lo }
+{
+    let Ordering::Less = compare_ends(&item.hi, &span.lo) else {
+        return match compare_ends(&span.hi, &item.lo) {
+            Ordering::Less => Beside::Left,
+            _ => Beside::Neither,
+        };
+    };
+    Beside::Right
+}
+
+fn place_over(span: &Span, first: &Span) -> Stand
+    ensures behind { result ≡ Behind → IsAtMost first.now.hi span.now.lo }
+    ensures before { result ≡ Before → IsBelow span.now.lo first.now.hi × IsAtMost span.now.hi first.now.lo }
+    ensures over { result ≡ Over → IsBelow span.now.lo first.now.hi × IsBelow first.now.lo span.now.hi }
+{
+    let Ordering::Less = compare_ends(&span.lo, &first.hi) else {
+        return Stand::Behind;
+    };
+    let Ordering::Less = compare_ends(&first.lo, &span.hi) else {
+        return Stand::Before;
+    };
+    Stand::Over
+}
+
+/// The items of the first level laid over the second. The list says of the parts from that of the levels
+/// on whether each may be NULL. Both handles are spent in every case. The error is want of memory.
+#[cycle(unite)]
+pub fn lay_items(
+    levels: &mut Levels,
+    alloc: Global,
+    parts: &[bool],
+    g: Option<usize>,
+    h: Option<usize>,
+) -> Result<Option<usize>, AllocError>
+    requires owns { Owns levels.old (g ∷ h ∷ []) }
+    requires first { ArePlaced parts.now (level_of levels.old g) }
+    requires second { ArePlaced parts.now (level_of levels.old h) }
+    ensures ok { IfOk result (λ r. Step levels.old levels.new (g ∷ h ∷ []) (r ∷ [])) }
+    ensures level { IfOk result (λ r. level_of levels.new r ≡ lay_all (union_below parts.now) (level_of levels.old g) (level_of levels.old h)) }
+    ensures err { OnErr result (Step levels.old levels.new (g ∷ h ∷ []) []) }
+{
+    let Some(key) = g else {
+        return Ok(h);
+    };
+    let Ok(top) = levels.open(key) else {
+        levels.free(h);
+        return Err(AllocError);
+    };
+    let Ok(after) = lay_items(levels, alloc, parts, top.right, h) else {
+        levels.free(top.left);
+        levels.free(top.item.child);
+        return Err(AllocError);
+    };
+    if levels.count(after) == u64::MAX {
+        levels.free(top.left);
+        levels.free(top.item.child);
+        levels.free(after);
+        return Err(AllocError);
+    }
+    let Ok(laid) = lay_item(levels, alloc, parts, top.item, after) else {
+        levels.free(top.left);
+        return Err(AllocError);
+    };
+    let whole = lay_items(levels, alloc, parts, top.left, laid)?;
+    Ok(whole)
+}
+
+// An item laid over a level.
+#[cycle(unite)]
+fn lay_item(
+    levels: &mut Levels,
+    alloc: Global,
+    parts: &[bool],
+    item: Item,
+    root: Option<usize>,
+) -> Result<Option<usize>, AllocError>
+    requires owns { Owns levels.old (item.child ∷ root ∷ []) }
+    requires alone { ArePlaced parts.now (one_item item.span (level_of levels.old item.child) no_items) }
+    requires level { ArePlaced parts.now (level_of levels.old root) }
+    ensures ok { IfOk result (λ r. Step levels.old levels.new (item.child ∷ root ∷ []) (r ∷ [])) }
+    ensures level { IfOk result (λ r. level_of levels.new r ≡ lay (union_below parts.now) item.span (level_of levels.old item.child) (level_of levels.old root)) }
+    ensures err { OnErr result (Step levels.old levels.new (item.child ∷ root ∷ []) []) }
+{
+    match item.child {
+        Some(_) => {
+            let whole = lay_over(levels, alloc, parts, item, root)?;
+            Ok(whole)
+        }
+        None => {
+            let whole = cover(levels, alloc, root, item.span)?;
+            Ok(whole)
+        }
+    }
+}
+
+// An item laid over a level, whatever its child: on one side of the topmost item where it lies apart from
+// that, else from the first item on.
+#[cycle(unite)]
+fn lay_over(
+    levels: &mut Levels,
+    alloc: Global,
+    parts: &[bool],
+    item: Item,
+    root: Option<usize>,
+) -> Result<Option<usize>, AllocError>
+    requires owns { Owns levels.old (item.child ∷ root ∷ []) }
+    requires alone { ArePlaced parts.now (one_item item.span (level_of levels.old item.child) no_items) }
+    requires level { ArePlaced parts.now (level_of levels.old root) }
+    ensures ok { IfOk result (λ r. Step levels.old levels.new (item.child ∷ root ∷ []) (r ∷ [])) }
+    ensures level { IfOk result (λ r. level_of levels.new r ≡ lay (union_below parts.now) item.span (level_of levels.old item.child) (level_of levels.old root)) }
+    ensures err { OnErr result (Step levels.old levels.new (item.child ∷ root ∷ []) []) }
+{
+    let Some(key) = root else {
+        let whole = join(levels, None, item, root)?;
+        return Ok(whole);
+    };
+    let Ok(top) = levels.open(key) else {
+        levels.free(item.child);
+        return Err(AllocError);
+    };
+    match place_beside(&item.span, &top.item.span) {
+        Beside::Right => {
+            let Ok(back) = lay_over(levels, alloc, parts, item, top.right) else {
+                levels.free(top.left);
+                levels.free(top.item.child);
+                return Err(AllocError);
+            };
+            let whole = join(levels, top.left, top.item, back)?;
+            Ok(whole)
+        }
+        Beside::Left => {
+            let Ok(front) = lay_over(levels, alloc, parts, item, top.left) else {
+                levels.free(top.right);
+                levels.free(top.item.child);
+                return Err(AllocError);
+            };
+            let whole = join(levels, front, top.item, top.right)?;
+            Ok(whole)
+        }
+        Beside::Neither => {
+            let Ok(same) = levels.branch(top.item, top.left, top.right) else {
+                levels.free(item.child);
+                return Err(AllocError);
+            };
+            let whole = lay_from_first(levels, alloc, parts, item, same)?;
+            Ok(whole)
+        }
+    }
+}
+
+// An item laid over a level, from the first item of that on.
+#[cycle(unite)]
+fn lay_from_first(
+    levels: &mut Levels,
+    alloc: Global,
+    parts: &[bool],
+    item: Item,
+    root: Option<usize>,
+) -> Result<Option<usize>, AllocError>
+    requires owns { Owns levels.old (item.child ∷ root ∷ []) }
+    requires alone { ArePlaced parts.now (one_item item.span (level_of levels.old item.child) no_items) }
+    requires level { ArePlaced parts.now (level_of levels.old root) }
+    ensures ok { IfOk result (λ r. Step levels.old levels.new (item.child ∷ root ∷ []) (r ∷ [])) }
+    ensures level { IfOk result (λ r. level_of levels.new r ≡ lay (union_below parts.now) item.span (level_of levels.old item.child) (level_of levels.old root)) }
+    ensures err { OnErr result (Step levels.old levels.new (item.child ∷ root ∷ []) []) }
+{
+    let Some(key) = root else {
+        let whole = join(levels, None, item, root)?;
+        return Ok(whole);
+    };
+    let Ok(first) = take_first(levels, key) else {
+        levels.free(item.child);
+        return Err(AllocError);
+    };
+    match place_over(&item.span, &first.item.span) {
+        Stand::Behind => match lay_from_first(levels, alloc, parts, item, first.rest) {
+            Ok(rest) => {
+                let whole = weld_front(levels, first.item, rest)?;
+                Ok(whole)
+            }
+            Err(error) => {
+                levels.free(first.item.child);
+                Err(error)
+            }
+        },
+        Stand::Before => {
+            let whole = meld(levels, item, first.item, first.rest)?;
+            Ok(whole)
+        }
+        Stand::Over => {
+            let whole = overlay(levels, alloc, parts, item, first)?;
+            Ok(whole)
+        }
+    }
+}
+
+// An item laid over a level with whose first item it overlaps.
+#[cycle(unite)]
+fn overlay(
+    levels: &mut Levels,
+    alloc: Global,
+    parts: &[bool],
+    item: Item,
+    first: First,
+) -> Result<Option<usize>, AllocError>
+    requires owns { Owns levels.old (item.child ∷ first.item.child ∷ first.rest ∷ []) }
+    requires alone { ArePlaced parts.now (one_item item.span (level_of levels.old item.child) no_items) }
+    requires level { ArePlaced parts.now (one_item first.item.span (level_of levels.old first.item.child) (level_of levels.old first.rest)) }
+    requires over { IsBelow item.span.lo first.item.span.hi × IsBelow first.item.span.lo item.span.hi }
+    ensures ok { IfOk result (λ r. Step levels.old levels.new (item.child ∷ first.item.child ∷ first.rest ∷ []) (r ∷ [])) }
+    ensures level { IfOk result (λ r. level_of levels.new r ≡ lay (union_below parts.now) item.span (level_of levels.old item.child) (one_item first.item.span (level_of levels.old first.item.child) (level_of levels.old first.rest))) }
+    ensures err { OnErr result (Step levels.old levels.new (item.child ∷ first.item.child ∷ first.rest ∷ []) []) }
+{
+    let First { item: under, rest } = first;
+    let Ok(behind) = left_over(levels, alloc, parts, &item, &under, rest) else {
+        levels.free(item.child);
+        levels.free(under.child);
+        return Err(AllocError);
+    };
+    let Ok(both) = unite_below(levels, alloc, parts, item.child, under.child) else {
+        levels.free(item.child);
+        levels.free(under.child);
+        levels.free(behind);
+        return Err(AllocError);
+    };
+    let whole = spread(levels, alloc, item, under, both, behind)?;
+    Ok(whole)
+}
+
+// What an item has behind another laid over the items after that. The children stay held; the level's
+// handle is spent in every case.
+#[cycle(unite)]
+fn left_over(
+    levels: &mut Levels,
+    alloc: Global,
+    parts: &[bool],
+    item: &Item,
+    under: &Item,
+    rest: Option<usize>,
+) -> Result<Option<usize>, AllocError>
+    requires owns { Owns levels.old (item.now.child ∷ under.now.child ∷ rest ∷ []) }
+    requires alone { ArePlaced parts.now (one_item item.now.span (level_of levels.old item.now.child) no_items) }
+    requires level { ArePlaced parts.now (one_item under.now.span (level_of levels.old under.now.child) (level_of levels.old rest)) }
+    ensures ok { IfOk result (λ r. Step levels.old levels.new (rest ∷ []) (r ∷ [])) }
+    ensures level { IfOk result (λ r. level_of levels.new r ≡ past (union_below parts.now) item.now.span (level_of levels.old item.now.child) under.now.span.hi (level_of levels.old rest)) }
+    ensures err { OnErr result (Step levels.old levels.new (rest ∷ []) []) }
+{
+    let Ordering::Greater = compare_ends(&item.span.hi, &under.span.hi) else {
+        return Ok(rest);
+    };
+    match shared_item(levels, alloc, &under.span.hi, &item.span.hi, item.child) {
+        Ok(piece) => {
+            let whole = lay_over(levels, alloc, parts, piece, rest)?;
+            Ok(whole)
+        }
+        Err(error) => {
+            levels.free(rest);
+            Err(error)
+        }
+    }
+}
+
+// What goes on below either of two children, which stay held.
+#[cycle(unite)]
+fn unite_below(
+    levels: &mut Levels,
+    alloc: Global,
+    parts: &[bool],
+    c: Option<usize>,
+    d: Option<usize>,
+) -> Result<Option<usize>, AllocError>
+    requires owns { Owns levels.old (c ∷ d ∷ []) }
+    requires first { ArePlacedBelow parts.now (level_of levels.old c) }
+    requires second { ArePlacedBelow parts.now (level_of levels.old d) }
+    ensures ok { IfOk result (λ r. Step levels.old levels.new [] (r ∷ [])) }
+    ensures level { IfOk result (λ r. level_of levels.new r ≡ union_below parts.now (level_of levels.old c) (level_of levels.old d)) }
+    ensures err { OnErr result (Step levels.old levels.new [] []) }
+{
+    let [_, below @ ..] = parts else {
+        return Ok(None);
+    };
+    let [nullable, ..] = below else {
+        return Ok(None);
+    };
+    if levels.count(c) == 0 || levels.count(d) == 0 {
+        return Ok(None);
+    }
+    levels.hold(c)?;
+    let Ok(()) = levels.hold(d) else {
+        levels.free(c);
+        return Err(AllocError);
+    };
+    let whole = lay_items(levels, alloc, below, c, d)?;
+    if is_all(levels, *nullable, whole) {
+        levels.free(whole);
+        return Ok(None);
+    }
+    Ok(whole)
+}
