@@ -1,0 +1,4 @@
+mod Listing
+mod Keeping
+mod Running
+mod Doing
