@@ -6,8 +6,9 @@ ghost use Rattle.rx_value.specs.declared.order.End.{End as end_of_span};
 ghost use Rattle.rx_tree.specs.Tree.{Tree, size};
 ghost use Rattle.rx_tree.specs.Member.{IsTuple, HoldSame, holds};
 ghost use Rattle.rx_tree.specs.Points.{AreSpansAt, is_inside_at, point_tree};
-ghost use Rattle.rx_level.specs.Store.{IsSound, IsReached};
-ghost use Rattle.rx_level.specs.Under.{IsNumberUnder};
+ghost use Rattle.rx_level.specs.Store.{IsSound, IsReached, tree_of};
+ghost use Rattle.rx_level.specs.Under.{IsNumberUnder, IsUnder};
+ghost use Rattle.rx_level.specs.Standing.{IsAtOneDepth, StandsIn};
 ghost use Rattle.rx_graph.specs.declared.handles.Root.TheVariants.{Everything as all_keys, Nothing as no_keys};
 ghost use Rattle.rx_graph.specs.Graph.{Graph, Steps, IsHeld, AreCanonical, handle_count, link_of, tree_in};
 
@@ -74,6 +75,7 @@ impl Arena {
     pub fn nothing(&mut self) -> Handle
         requires { handle_count self.old < 2 ^ 32 - 1 }
         ensures root { result ≡ no_keys }
+        ensures store { self.new.store ≡ self.old.store }
         ensures step { Steps self.old self.new [] (result ∷ []) }
         ensures count { handle_count self.new ≡ handle_count self.old + 1 }
         ensures canonical { AreCanonical self.old → AreCanonical self.new }
@@ -107,6 +109,7 @@ impl Arena {
         ensures step { Steps self.old self.new (h ∷ []) [] }
         ensures count { handle_count self.new + 1 ≡ handle_count self.old }
         ensures live { slab_len self.new.store ≤ slab_len self.old.store }
+        ensures without_items { link_of h ≡ None → self.new.store ≡ self.old.store }
         ensures canonical { AreCanonical self.old → AreCanonical self.new }
     {
         match h.into_root() {
@@ -119,11 +122,14 @@ impl Arena {
         }
     }
 
-    /// That each item is reached from a handle, and that the store of levels is sound, on which a crate
-    /// that works on levels builds.
+    /// That each item is reached from a handle, that an item stands at one depth of a tree, however often,
+    /// that the items of a tree are those that its link leads to, and that the store of levels is sound, on
+    /// which a crate that works on levels builds.
     pub fn sound(&self)
         ensures sound { IsSound self.now.store [] }
         ensures reached { (m : ℕ) → IsSome (get self.now.store m) → IsReached self.now.store m }
+        ensures one_depth { (r : Option ℕ) → IsAtOneDepth (tree_of self.now.store r) }
+        ensures stands { (r : Option ℕ) (m : ℕ) → IsUnder self.now.store r m ↔ StandsIn m (tree_of self.now.store r) }
     {
         self.levels.sound();
     }
@@ -195,6 +201,7 @@ impl Arena {
             &mut self.levels,
             self.alloc,
             self.nullable.as_slice(),
+            0,
             part,
             spans.as_slice(),
         );

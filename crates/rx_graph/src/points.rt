@@ -6,17 +6,17 @@ ghost use Rattle.rx_tree.specs.Points.{items_at};
 ghost use Rattle.rx_level.specs.Store.{IsSound};
 ghost use Rattle.rx_level.specs.Step.{Step, level_of};
 
-use crate::wholes::whole_of;
-use rx_level::{Item, Levels, build};
+use rx_level::{Item, Levels, build, whole_of};
 use rx_value::Span;
 use std::alloc::{AllocError, Global};
 
-/// The items of some spans at a part, under one whole item of each part before it. The error is want of
-/// memory.
+/// The items of some spans at a part, under one whole item of each part before it. The parts are counted
+/// from the first of the list, which is this part of the tree. The error is want of memory.
 pub fn level_at(
     levels: &mut Levels,
     alloc: Global,
     nullable: &[bool],
+    at: u32,
     part: u32,
     spans: &[Span],
 ) -> Result<Option<usize>, AllocError>
@@ -29,11 +29,18 @@ pub fn level_at(
         return Ok(None);
     };
     if part == 0 {
-        let level = build(levels, alloc, spans)?;
+        let level = build(levels, alloc, at, spans)?;
         return Ok(level);
     }
-    let child = level_at(levels, alloc, rest, part - 1, spans)?;
-    let span = whole_of(*first);
-    let whole = levels.branch(Item { span, child }, None, None)?;
+    let Some(next) = at.checked_add(1) else {
+        return Err(AllocError);
+    };
+    let child = level_at(levels, alloc, rest, next, part - 1, spans)?;
+    let item = Item {
+        part: at,
+        span: whole_of(*first),
+        child,
+    };
+    let whole = levels.branch(item, None, None)?;
     Ok(whole)
 }

@@ -5,7 +5,7 @@ ghost use Rattle.rx_value.specs.Spans.{IsAtMost, IsBelow, IsSpan};
 ghost use Rattle.rx_tree.specs.Tree.{first_of};
 ghost use Rattle.rx_tree.specs.Points.{AreApart, AreSpans, AreSpansAt};
 
-use crate::wholes::{first_of, is_at_most};
+use rx_level::{first_of, is_at_most};
 use rx_value::{End, Span};
 
 /// Whether these are spans of a part, which is one of the parts, that rise and don't touch, none below

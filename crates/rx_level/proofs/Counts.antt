@@ -4,7 +4,7 @@ use Rattle.std.proofs.lemmas.List.Sums.{sum_by-cons}
 use Rattle.std.proofs.lemmas.Bool.Decides.{eqb_tells}
 use Rattle.slab.specs.Slab.{Slab, get, Updates}
 use Rattle.rx_level.specs.declared.nodes.Node.{Node}
-use Rattle.rx_level.specs.Store.{leads, links_in, links_to, owed, linked_in, held_in, rank_in, height_in, count_in, size_in, at, held_of, rank_of, height_of, count_of, size_of, bare, IsShaped, IsNearly, IsSound}
+use Rattle.rx_level.specs.Store.{leads, links_in, links_to, owed, linked_in, held_in, rank_in, height_in, count_in, size_in, part_in, at, held_of, rank_of, height_of, count_of, size_of, part_of, IsAt, bare, IsShaped, IsNearly, IsSound}
 
 abbrev pub slot : List (Option Node) → ℕ → Option Node
 slot xs k = slice_index_or xs k None
@@ -87,6 +87,10 @@ pub size-bare : (o : Option Node) → size_in (bare o) ≡ size_in o
 size-bare None = refl
 size-bare (Some v) = refl
 
+pub part-bare : (o : Option Node) → part_in (bare o) ≡ part_in o
+part-bare None = refl
+part-bare (Some v) = refl
+
 -- a link leads to the same node, but for its counts
 pub record LeadsAlike (old new : Slab Node) (r : Option ℕ) : Type 0 where
   pub same : bare (at new r) ≡ bare (at old r)
@@ -106,6 +110,13 @@ alike_count old new r h = sym (count-bare (at new r)) ∙ ap count_in h.same ∙
 pub alike_size : (old new : Slab Node) (r : Option ℕ) → LeadsAlike old new r → size_of new r ≡ size_of old r
 alike_size old new r h = sym (size-bare (at new r)) ∙ ap size_in h.same ∙ size-bare (at old r)
 
+pub alike_part : (old new : Slab Node) (r : Option ℕ) → LeadsAlike old new r → part_of new r ≡ part_of old r
+alike_part old new r h = sym (part-bare (at new r)) ∙ ap part_in h.same ∙ part-bare (at old r)
+
+IsAt-same : (old new : Slab Node) (p : ℕ) (r : Option ℕ) → LeadsAlike old new r → IsAt old p r → IsAt new p r
+IsAt-same old new p None e h = tt
+IsAt-same old new p (Some k) e h = alike_part old new (Some k) e ∙ h
+
 -- a node's shape depends on what its links lead to
 pub IsShaped-same : (old new : Slab Node) (v : Node) → LeadsAlike old new v.child → LeadsAlike old new v.left → LeadsAlike old new v.right → IsShaped old v → IsShaped new v
 IsShaped-same old new v ec el er h = record {
@@ -116,6 +127,9 @@ IsShaped-same old new v ec el er h = record {
   height = h.height ∙ (rw (alike_height old new v.left el, alike_height old new v.right er) refl);
   count = h.count ∙ omega (arith, alike_count old new v.left el, alike_count old new v.right er);
   size = h.size ∙ omega (arith, alike_size old new v.child ec, alike_size old new v.left el, alike_size old new v.right er);
+  below = IsAt-same old new (v.part + 1) v.child ec h.below;
+  before = IsAt-same old new v.part v.left el h.before;
+  after = IsAt-same old new v.part v.right er h.after;
 }
 
 pub leads_unlike : (m key : ℕ) → m ≢ key → leads m (Some key) ≡ 0
@@ -162,7 +176,7 @@ recounted_alike old new key v w is e u (Some k) = elim (eqb_tells k key) [
 ]
 
 IsShaped-count : (s : Slab Node) (v : Node) (links held : ℕ) → IsShaped s v → IsShaped s (record v { links = links; held = held })
-IsShaped-count s v links held h = record { child = h.child; left = h.left; right = h.right; near = h.near; height = h.height; count = h.count; size = h.size }
+IsShaped-count s v links held h = record { child = h.child; left = h.left; right = h.right; near = h.near; height = h.height; count = h.count; size = h.size; below = h.below; before = h.before; after = h.after }
 
 IsShaped-some : (old new : Slab Node) (w x : Node) → Some w ≡ Some x → ((r : Option ℕ) → LeadsAlike old new r) → IsShaped old w → IsShaped new x
 IsShaped-some old new w x e same h =

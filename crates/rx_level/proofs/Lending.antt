@@ -18,15 +18,15 @@ abbrev root_of : Tree → Option ℕ
 root_of none = None
 root_of (some k s c l r) = Some k
 
-abbrev child_of : Tree → Tree
+abbrev pub child_of : Tree → Tree
 child_of none = none
 child_of (some k s c l r) = c
 
-abbrev left_of : Tree → Tree
+abbrev pub left_of : Tree → Tree
 left_of none = none
 left_of (some k s c l r) = l
 
-abbrev right_of : Tree → Tree
+abbrev pub right_of : Tree → Tree
 right_of none = none
 right_of (some k s c l r) = r
 

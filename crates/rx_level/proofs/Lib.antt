@@ -12,3 +12,4 @@ pub mod Lists
 pub mod Depth
 pub mod Entries
 pub mod Marks
+pub mod Standing

@@ -49,7 +49,7 @@ marked_set marks k m within h = elim (eqb_tells m k) [
 ]
 
 -- what is under a link of a node is under the node
-under_down : (s : Slab Node) (r q : Option ℕ) (k : ℕ) → IsUnder s r k → ((m : ℕ) → leads m q ≤ links_in m (get s k)) → (m : ℕ) → IsUnder s q m → IsUnder s r m
+pub under_down : (s : Slab Node) (r q : Option ℕ) (k : ℕ) → IsUnder s r k → ((m : ℕ) → leads m q ≤ links_in m (get s k)) → (m : ℕ) → IsUnder s q m → IsUnder s r m
 under_down s r q k top among m (here m' e there) =
     below m' k top (omega (arith, among m', ap (leads m') e, leads_same m'))
 under_down s r q k top among m (below m' k' u to) = below m' k' (under_down s r q k top among k' u) to

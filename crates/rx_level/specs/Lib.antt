@@ -3,3 +3,4 @@ pub mod Tree
 pub mod Store
 pub mod Step
 pub mod Under
+pub mod Standing

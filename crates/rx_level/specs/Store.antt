@@ -60,6 +60,11 @@ abbrev pub size_in : Option Node → ℕ
 size_in None = 0
 size_in (Some v) = v.size
 
+-- the part of a node, 0 where there is none
+abbrev pub part_in : Option Node → ℕ
+part_in None = 0
+part_in (Some v) = v.part
+
 -- what a link leads to
 abbrev pub at : Slab Node → Option ℕ → Option Node
 at s None = None
@@ -91,6 +96,15 @@ count_of s r = count_in (at s r)
 abbrev pub size_of : Slab Node → Option ℕ → ℕ
 size_of s r = size_in (at s r)
 
+-- the part of what a link leads to
+abbrev pub part_of : Slab Node → Option ℕ → ℕ
+part_of s r = part_in (at s r)
+
+-- the link is none, or leads to a node of this part
+abbrev pub IsAt : Slab Node → ℕ → Option ℕ → Type 0
+IsAt s p None = Unit {0}
+IsAt s p (Some k) = part_of s (Some k) ≡ p
+
 -- a node without its counts
 abbrev pub bare : Option Node → Option Node
 bare None = None
@@ -112,7 +126,8 @@ parts_in (Some v) = Some (record { span = v.span; child = v.child; left = v.left
 abbrev pub IsWithinStore : Slab Node → Slab Node → Type 0
 IsWithinStore new old = (k : ℕ) → IsSome (get new k) → bare (get new k) ≡ bare (get old k)
 
--- a node's numbers are those of its parts, and its sides are near in height
+-- a node's numbers are those of what it leads to, its sides are near in height and of its own part, and its child is
+-- of the next part
 pub record IsShaped (s : Slab Node) (v : Node) : Type 0 where
   pub child : rank_of s v.child < v.rank
   pub left : rank_of s v.left < v.rank
@@ -121,6 +136,9 @@ pub record IsShaped (s : Slab Node) (v : Node) : Type 0 where
   pub height : v.height ≡ 1 + max (height_of s v.left) (height_of s v.right)
   pub count : v.count ≡ 1 + count_of s v.left + count_of s v.right
   pub size : v.size ≡ 1 + size_of s v.child + size_of s v.left + size_of s v.right
+  pub below : IsAt s (v.part + 1) v.child
+  pub before : IsAt s v.part v.left
+  pub after : IsAt s v.part v.right
 
 -- The store is sound, with these links owed to it, and one node that may be unused.
 pub record IsNearly (s : Slab Node) (spare : Option ℕ) (rest : List (Option ℕ)) : Type 0 where

@@ -13,10 +13,11 @@ use crate::trees::Item;
 use rx_value::Span;
 use std::alloc::{AllocError, Global};
 
-/// A level with an item for each span, without children. The error is want of memory.
+/// A level with an item of this part for each span, without children. The error is want of memory.
 pub fn build(
     levels: &mut Levels,
     alloc: Global,
+    part: u32,
     spans: &[Span],
 ) -> Result<Option<usize>, AllocError>
     requires { IsSound levels.old [] }
@@ -30,10 +31,15 @@ pub fn build(
     }
     let middle = count / 2;
     let span = copy_span(alloc, &spans[middle])?;
-    let left = build(levels, alloc, &spans[..middle])?;
-    match build(levels, alloc, &spans[middle + 1..]) {
+    let left = build(levels, alloc, part, &spans[..middle])?;
+    match build(levels, alloc, part, &spans[middle + 1..]) {
         Ok(right) => {
-            let whole = join(levels, left, Item { span, child: None }, right)?;
+            let item = Item {
+                part,
+                span,
+                child: None,
+            };
+            let whole = join(levels, left, item, right)?;
             Ok(whole)
         }
         Err(error) => {

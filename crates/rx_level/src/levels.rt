@@ -1,13 +1,14 @@
 //! Levels that are held by handles and share what they have in common.
 
-ghost use Rattle.std.specs.Prelude.{◌≡◌, ◌<◌, ◌≤◌, ◌+◌, ◌-◌, ◌^◌, ℕ, List, [], ◌∷◌, Option, Some, None, IfSome, IfNone, IsSome, IfOk, OnOk, OnErr, max};
+ghost use Rattle.std.specs.Prelude.{◌≡◌, ◌<◌, ◌≤◌, ◌+◌, ◌-◌, ◌^◌, ◌↔◌, ℕ, List, [], ◌∷◌, Option, Some, None, IfSome, IfNone, IsSome, IfOk, OnOk, OnErr, max};
 ghost use Rattle.slab.specs.Slab.{get, slab_len};
 ghost use Rattle.rx_tree.specs.Tree.{Level, level_size};
 ghost use Rattle.rx_tree.specs.Join.{join_level, length_of};
 ghost use Rattle.rx_tree.specs.Tree.Level.{item, end};
 ghost use Rattle.rx_level.specs.Tree.{fork_of, Fork, IsNear, least};
-ghost use Rattle.rx_level.specs.Store.{IsSound, IsReached, held_of, leads, root_in, total_held, tree_of};
-ghost use Rattle.rx_level.specs.Under.{IsNumberUnder};
+ghost use Rattle.rx_level.specs.Store.{IsSound, IsReached, held_of, leads, part_of, root_in, total_held, tree_of};
+ghost use Rattle.rx_level.specs.Under.{IsNumberUnder, IsUnder};
+ghost use Rattle.rx_level.specs.Standing.{IsAtOneDepth, StandsIn};
 ghost use Rattle.rx_level.specs.Step.{Owns, Step, Lent, level_of, tall_of, between};
 
 use crate::marking::count_under;
@@ -52,12 +53,15 @@ impl Levels {
         }
     }
 
-    /// That the store is sound, on which a caller may build, that each item is reached from a handle, and
-    /// that no level's tree is high for its items.
+    /// That the store is sound, on which a caller may build, that each item is reached from a handle, that
+    /// no level's tree is high for its items, that an item stands at one depth of a tree, however often, and
+    /// that the items of a tree are those that its link leads to.
     pub fn sound(&self)
         ensures sound { IsSound self.now [] }
         ensures reached { (m : ℕ) → IsSome (get self.now m) → IsReached self.now m }
         ensures low { (r : Option ℕ) → least (tall_of self.now r) ≤ length_of (level_of self.now r) }
+        ensures one_depth { (r : Option ℕ) → IsAtOneDepth (tree_of self.now r) }
+        ensures stands { (r : Option ℕ) (m : ℕ) → IsUnder self.now r m ↔ StandsIn m (tree_of self.now r) }
     {
         let _nodes = &self.nodes;
     }
@@ -116,6 +120,7 @@ impl Levels {
         ensures child { IfSome result (λ o. Lent self.now [] o.child) }
         ensures left { IfSome result (λ o. Lent self.now [] o.left) }
         ensures right { IfSome result (λ o. Lent self.now [] o.right) }
+        ensures part { IfSome result (λ o. o.part ≡ part_of self.now root) }
         ensures none { IfNone result (root ≡ None) }
     {
         trees::see(&self.nodes, root)
@@ -158,7 +163,8 @@ impl Levels {
     }
 
     /// An item between two levels of near heights. The three handles are spent in every case. The error
-    /// is want of memory.
+    /// is want of memory; a child that isn't of the next part, or a level that isn't of the item's own part,
+    /// which no caller gives, is answered the same.
     pub fn branch(
         &mut self,
         item: Item,
@@ -171,12 +177,13 @@ impl Levels {
         ensures fork { IfOk result (λ r. fork_of (tree_of self.new r) ≡ Some (record { span = item.span; child = tree_of self.old item.child; left = tree_of self.old left; right = tree_of self.old right })) }
         ensures level { IfOk result (λ r. level_of self.new r ≡ between self.old left item right) }
         ensures height { IfOk result (λ r. tall_of self.new r ≡ 1 + max (tall_of self.old left) (tall_of self.old right)) }
+        ensures part { IfOk result (λ r. part_of self.new r ≡ item.part) }
         ensures live { slab_len self.new ≤ slab_len self.old + 1 }
         ensures err { OnErr result (Step self.old self.new (item.child ∷ left ∷ right ∷ []) []) }
     {
-        let Item { span, child } = item;
+        let Item { part, span, child } = item;
         let spent = root_count(child) + root_count(left) + root_count(right);
-        let made = trees::branch(&mut self.nodes, span, child, left, right);
+        let made = trees::branch(&mut self.nodes, part, span, child, left, right);
         self.handles -= spent;
         let Ok(key) = made else {
             return Err(AllocError);

@@ -13,6 +13,7 @@ mod spans;
 mod tests;
 mod trees;
 mod uses;
+mod wholes;
 
 pub use building::build;
 pub use joining::{First, append, join, take_first};
@@ -21,3 +22,4 @@ pub use nodes::Node;
 pub use reading::{Found, find, same_levels};
 pub use spans::{copy_end, copy_span};
 pub use trees::{Item, Opened, Seen};
+pub use wholes::{first_of, is_at_most, is_whole, whole_of};

@@ -3,7 +3,7 @@
 ghost use Rattle.std.specs.Prelude.{◌≡◌, ◌<◌, ◌≤◌, ◌+◌, ◌-◌, ◌^◌, ℕ, List, [], ◌∷◌, Option, Some, None, IfSome, IfOk, OnOk, OnErr, IsTrue, max};
 ghost use Rattle.slab.specs.Slab.{get, slab_len};
 ghost use Rattle.rx_level.specs.Tree.{IsNear};
-ghost use Rattle.rx_level.specs.Store.{IsSound, IsWithinStore, held_of, linked_in, leads, owed, rank_of, height_of, count_of, size_of, parts_in, Parts};
+ghost use Rattle.rx_level.specs.Store.{IsSound, IsWithinStore, held_of, linked_in, leads, owed, rank_of, height_of, count_of, size_of, part_in, parts_in, IsAt, Parts};
 
 use crate::uses;
 use rx_value::Span;
@@ -13,6 +13,8 @@ use std::alloc::AllocError;
 /// An item of a level, with the items to its left and right.
 #[derive(Drop)]
 pub struct Node {
+    /// The part, counted from 0, whose positions the span is of.
+    pub part: u32,
     pub span: Span,
     /// The level of the next part, none where the item holds all keys.
     pub child: Option<usize>,
@@ -96,9 +98,40 @@ fn numbers_over(
     })
 }
 
-// A new node takes over the links that are owed.
+// The link is none, or leads to a node of this part.
+fn is_at(nodes: &Slab<Node>, part: u64, root: Option<usize>) -> bool
+    ensures { IsTrue result → IsAt nodes.now part root }
+{
+    let Some(key) = root else {
+        return true;
+    };
+    match nodes.get(key) {
+        Some(node) => u64::from(node.part) == part,
+        None => false,
+    }
+}
+
+// The links are of the parts that a node of this part may lead to: its child is of the next part, and its
+// sides are of its own.
+fn fits(
+    nodes: &Slab<Node>,
+    part: u32,
+    child: Option<usize>,
+    left: Option<usize>,
+    right: Option<usize>,
+) -> bool
+    ensures child { IsTrue result → IsAt nodes.now (part + 1) child }
+    ensures left { IsTrue result → IsAt nodes.now part left }
+    ensures right { IsTrue result → IsAt nodes.now part right }
+{
+    let own = u64::from(part);
+    is_at(nodes, own + 1, child) && is_at(nodes, own, left) && is_at(nodes, own, right)
+}
+
+// A new node takes over the links that are owed, if they are of the parts that it may lead to.
 fn add(
     nodes: &mut Slab<Node>,
+    part: u32,
     span: Span,
     child: Option<usize>,
     left: Option<usize>,
@@ -107,6 +140,7 @@ fn add(
     requires near { IsNear (height_of nodes.old left) (height_of nodes.old right) }
     ensures sound { OnOk result ((rest : List (Option ℕ)) → IsSound nodes.old (child ∷ left ∷ right ∷ rest) → IsSound nodes.new rest) }
     ensures made { IfOk result (λ k. parts_in (get nodes.new k) ≡ Some (record { span = span; child = child; left = left; right = right })) }
+    ensures part { IfOk result (λ k. part_in (get nodes.new k) ≡ part) }
     ensures fresh { IfOk result (λ k. get nodes.old k ≡ None) }
     ensures held { IfOk result (λ k. (m : ℕ) → held_of nodes.new m ≡ held_of nodes.old m + leads m (Some k)) }
     ensures onto { OnOk result (IsWithinStore nodes.old nodes.new) }
@@ -117,8 +151,12 @@ fn add(
     ensures err_within { OnErr result (IsWithinStore nodes.new nodes.old) }
     ensures err_len { OnErr result (slab_len nodes.new ≡ slab_len nodes.old) }
 {
+    if !fits(nodes, part, child, left, right) {
+        return Err(AllocError);
+    }
     let numbers = numbers_over(nodes, child, left, right).ok_or(AllocError)?;
     let node = Node {
+        part,
         span,
         child,
         left,
@@ -146,9 +184,11 @@ fn has_room(nodes: &Slab<Node>, root: Option<usize>) -> bool
     }
 }
 
-/// A new node over the handles' trees, which are spent in every case.
+/// A new node over the handles' trees, which are spent in every case. The error is want of memory; links of
+/// other parts than a node of this part may lead to, which no caller gives, are answered the same.
 pub fn make(
     nodes: &mut Slab<Node>,
+    part: u32,
     span: Span,
     child: Option<usize>,
     left: Option<usize>,
@@ -158,6 +198,7 @@ pub fn make(
     requires owned { (m : ℕ) → owed m (child ∷ left ∷ right ∷ []) ≤ held_of nodes.old m }
     ensures sound { (rest : List (Option ℕ)) → IsSound nodes.old rest → IsSound nodes.new rest }
     ensures made { IfOk result (λ k. parts_in (get nodes.new k) ≡ Some (record { span = span; child = child; left = left; right = right })) }
+    ensures part { IfOk result (λ k. part_in (get nodes.new k) ≡ part) }
     ensures fresh { IfOk result (λ k. get nodes.old k ≡ None) }
     ensures ok_held { IfOk result (λ k. (m : ℕ) → held_of nodes.new m + owed m (child ∷ left ∷ right ∷ []) ≡ held_of nodes.old m + leads m (Some k)) }
     ensures ok_onto { OnOk result (IsWithinStore nodes.old nodes.new) }
@@ -175,7 +216,7 @@ pub fn make(
     uses::adopt(nodes, right);
     uses::adopt(nodes, left);
     uses::adopt(nodes, child);
-    match add(nodes, span, child, left, right) {
+    match add(nodes, part, span, child, left, right) {
         Ok(key) => Ok(key),
         Err(error) => {
             uses::unlink(nodes, child);

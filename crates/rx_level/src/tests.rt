@@ -27,8 +27,8 @@ fn levels_put_together_and_taken_apart(rt: HostRuntime) -> Result<(), Fail> {
     let alloc = rt.alloc();
     let (low, high) = (points(alloc, 1, 40)?, points(alloc, 41, 45)?);
     let mut levels = Levels::new(alloc);
-    let left = build(&mut levels, alloc, low.as_slice())?;
-    let right = build(&mut levels, alloc, high.as_slice())?;
+    let left = build(&mut levels, alloc, 0, low.as_slice())?;
+    let right = build(&mut levels, alloc, 0, high.as_slice())?;
     let whole = append(&mut levels, left, right)?;
     assert_eq!(rt;
         (levels.count(whole), levels.size(whole), levels.live()),

@@ -6,7 +6,7 @@ ghost use Rattle.rx_tree.specs.Tree.{Level};
 ghost use Rattle.rx_tree.specs.Join.{join_level};
 ghost use Rattle.rx_tree.specs.Tree.Level.{item};
 ghost use Rattle.rx_level.specs.Tree.{fork_of, Fork, IsNear};
-ghost use Rattle.rx_level.specs.Store.{IsSound, IsThere, at, held_of, leads, parts_in, Parts, tree_of};
+ghost use Rattle.rx_level.specs.Store.{IsSound, IsThere, at, held_of, leads, part_of, parts_in, Parts, tree_of};
 ghost use Rattle.rx_level.specs.Step.{Owns, Step, level_of, tall_of};
 
 use crate::nodes::{self, Node};
@@ -16,9 +16,11 @@ use rx_value::Span;
 use slab::Slab;
 use std::alloc::{AllocError, Global};
 
-/// An item: its span, and the level of the next part below it, none where it holds all keys.
+/// An item: its part, its span, and the level of the next part below it, none where it holds all keys.
 #[derive(Drop)]
 pub struct Item {
+    /// The part, counted from 0, whose positions the span is of.
+    pub part: u32,
     pub span: Span,
     pub child: Option<usize>,
 }
@@ -34,6 +36,8 @@ pub struct Opened {
 /// A node's own item as it stands in the store, and what it leads to.
 #[derive(Clone, Copy)]
 pub struct Seen<'a> {
+    /// The part, counted from 0, whose positions the span is of.
+    pub part: u32,
     pub span: &'a Span,
     pub child: Option<usize>,
     pub left: Option<usize>,
@@ -41,9 +45,11 @@ pub struct Seen<'a> {
 }
 
 /// One more item between two levels of near heights. The three handles are spent in every case. The
-/// error is want of memory.
+/// error is want of memory; links of other parts than an item of this part may lead to, which no caller
+/// gives, are answered the same.
 pub fn branch(
     nodes: &mut Slab<Node>,
+    part: u32,
     span: Span,
     child: Option<usize>,
     left: Option<usize>,
@@ -53,11 +59,12 @@ pub fn branch(
     requires near { IsNear (tall_of nodes.old left) (tall_of nodes.old right) }
     ensures ok { IfOk result (λ k. Step nodes.old nodes.new (child ∷ left ∷ right ∷ []) (Some k ∷ [])) }
     ensures fork { IfOk result (λ k. fork_of (tree_of nodes.new (Some k)) ≡ Some (record { span = span; child = tree_of nodes.old child; left = tree_of nodes.old left; right = tree_of nodes.old right })) }
+    ensures part { IfOk result (λ k. part_of nodes.new (Some k) ≡ part) }
     ensures live { OnOk result (slab_len nodes.new ≡ slab_len nodes.old + 1) }
     ensures err { OnErr result (Step nodes.old nodes.new (child ∷ left ∷ right ∷ []) []) }
     ensures err_live { OnErr result (slab_len nodes.new ≤ slab_len nodes.old) }
 {
-    match nodes::make(nodes, span, child, left, right) {
+    match nodes::make(nodes, part, span, child, left, right) {
         Ok(key) => Ok(key),
         Err(error) => Err(error),
     }
@@ -88,6 +95,7 @@ pub fn share(nodes: &mut Slab<Node>, root: Option<usize>)
 /// What the node of a link says, none where there is no node.
 pub fn see<'a>(nodes: &'a Slab<Node>, root: Option<usize>) -> Option<Seen<'a>>
     ensures some { IfSome result (λ o. parts_in (at nodes.now root) ≡ Some (record { span = o.span.now; child = o.child; left = o.left; right = o.right })) }
+    ensures part { IfSome result (λ o. o.part ≡ part_of nodes.now root) }
     ensures none { IfNone result (at nodes.now root ≡ None) }
 {
     let key = root?;
@@ -95,6 +103,7 @@ pub fn see<'a>(nodes: &'a Slab<Node>, root: Option<usize>) -> Option<Seen<'a>>
         return None;
     };
     Some(Seen {
+        part: node.part,
         span: &node.span,
         child: node.child,
         left: node.left,
@@ -111,8 +120,9 @@ fn read(nodes: &Slab<Node>, alloc: Global, key: usize) -> Result<Opened, AllocEr
     };
     let span = copy_span(alloc, &node.span)?;
     let child = node.child;
+    let part = node.part;
     Ok(Opened {
-        item: Item { span, child },
+        item: Item { part, span, child },
         left: node.left,
         right: node.right,
     })

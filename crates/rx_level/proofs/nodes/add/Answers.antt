@@ -14,6 +14,9 @@ returns-in-Ok-clause-sound c rest h =
       height = rw is at c.numbers_over.ensures.height;
       count = rw is at c.numbers_over.ensures.count;
       size = rw is at c.numbers_over.ensures.size;
+      below = c.fits.ensures.child (search rules);
+      before = c.fits.ensures.left (search rules);
+      after = c.fits.ensures.right (search rules);
     }) rest h
 
 pub returns-in-Err-clause-err_sound : goal.returns-in-Err-clause-err_sound
