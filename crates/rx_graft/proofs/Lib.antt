@@ -1,0 +1,12 @@
+pub mod Grafting
+pub mod Listed
+pub mod Depths
+pub mod Standing
+pub mod Adding
+pub mod Ready
+pub mod Wholes
+pub mod Parts
+pub mod Numbers
+pub mod Forgetting
+pub mod Bounds
+pub mod Chained
