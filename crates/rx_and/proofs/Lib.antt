@@ -1,5 +1,6 @@
 pub mod Apart
+pub mod Rising
 pub mod Seams
 pub mod Meets
 pub mod Roots
-pub mod Grafting
+pub mod Hanging

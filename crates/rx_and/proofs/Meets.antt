@@ -19,7 +19,9 @@ use Rattle.rx_level.proofs.Steps.{held_there, level_of-parts}
 use Rattle.rx_level.proofs.Lending.{lent_after}
 use Rattle.rx_level.proofs.Turning.{kept_root}
 use Rattle.rx_and.specs.Apart.{AreApart}
+use Rattle.rx_and.specs.Rising.{AreRising}
 use Rattle.rx_and.proofs.Apart.{across_are_apart, both_are_apart, glue_size_first}
+use Rattle.rx_and.proofs.Rising.{Keeps}
 
 -- the parts of a level are smaller
 pub record Smaller (whole below before after : Level) : Type 0 where
@@ -105,6 +107,14 @@ pub across_later : (a b : Slab Node) (c h : Option ℕ) (s : Span) → Stays a b
     → across (both (level_of b c)) (level_of b c) s (level_of b h) ≡ across (both (level_of a c)) (level_of a c) s (level_of a h)
 across_later a b c h s stays_c stays_h = rw (stays_c.level, stays_h.level) refl
 
+-- and with what is kept of a side
+pub across_kept : (a b : Slab Node) (c side kept : Option ℕ) (s : Span) → Keeps a s side kept → Stays a b c → Stays a b kept
+    → across (both (level_of b c)) (level_of b c) s (level_of b kept) ≡ across (both (level_of a c)) (level_of a c) s (level_of a side)
+across_kept a b c side kept s keeps stays_c stays_h = across_later a b c kept s stays_c stays_h ∙ keeps.same (both (level_of a c)) (level_of a c)
+
+pub rises_later : (a b : Slab Node) (r : Option ℕ) → Stays a b r → AreRising (level_of a r) → AreRising (level_of b r)
+rises_later a b r stay rising = subst AreRising (sym stay.level) rising
+
 pub both_later : (a b : Slab Node) (g h : Option ℕ) → Stays a b g → Stays a b h → both (level_of b g) (level_of b h) ≡ both (level_of a g) (level_of a h)
 both_later a b g h stays_g stays_h = rw (stays_g.level, stays_h.level) refl
 
@@ -137,22 +147,22 @@ glues_from s front middle back x m r whole is_x is_m is_r apart_x apart_m is = r
 }
 
 -- what an item and a level have in common
-pub crossed : (a b d e : Slab Node) (hroot c child l r middle front back : Option ℕ) (s t : Span) (p : Option Span)
-    → IsSound a [] → Lent a [] c → Lent a [] l → Lent a [] r
+pub crossed : (a b d e : Slab Node) (hroot c child l r low high middle front back : Option ℕ) (s t : Span) (p : Option Span)
+    → IsSound a [] → Lent a [] c → Keeps a s l low → Keeps a s r high
     → level_of a hroot ≡ join_level (level_of a l) (item t (level_of a child) (level_of a r))
     → p ≡ meet_span s t
     → Step a b [] (middle ∷ []) → level_of b middle ≡ put_part (part_of p (meet_child (both (level_of a c)) (level_of a c) (level_of a child))) end
-    → Step b d [] (front ∷ []) → level_of d front ≡ across (both (level_of b c)) (level_of b c) s (level_of b l)
-    → Step d e [] (back ∷ []) → level_of e back ≡ across (both (level_of d c)) (level_of d c) s (level_of d r)
+    → Step b d [] (front ∷ []) → level_of d front ≡ across (both (level_of b c)) (level_of b c) s (level_of b low)
+    → Step d e [] (back ∷ []) → level_of e back ≡ across (both (level_of d c)) (level_of d c) s (level_of d high)
     → Glues e front middle back (across (both (level_of a c)) (level_of a c) s (level_of a hroot))
-crossed a b d e hroot c child l r middle front back s t p sound lent_c lent_l lent_r opened is_p one is_middle two is_front three is_back =
+crossed a b d e hroot c child l r low high middle front back s t p sound lent_c keeps_l keeps_r opened is_p one is_middle two is_front three is_back =
     let k = kept a b d e middle front back one two three in
     let C = level_of a c in
     glues_from e front middle back
     (across (both C) C s (level_of a l)) (put_part (part_of p (meet_child (both C) C (level_of a child))) end) (across (both C) C s (level_of a r)) (across (both C) C s (level_of a hroot))
-    (k.front_kept ∙ is_front ∙ across_later a b c l s (stays a b _ sound one c lent_c) (stays a b _ sound one l lent_l))
+    (k.front_kept ∙ is_front ∙ across_kept a b c l low s keeps_l (stays a b _ sound one c lent_c) (stays a b _ sound one low keeps_l.lent))
     (k.middle_kept ∙ is_middle)
-    (is_back ∙ across_later a d c r s (stays_two a b d _ _ sound one two c lent_c) (stays_two a b d _ _ sound one two r lent_r))
+    (is_back ∙ across_kept a d c r high s keeps_r (stays_two a b d _ _ sound one two c lent_c) (stays_two a b d _ _ sound one two high keeps_r.lent))
     (across_are_apart (both C) C s (level_of a l)) (piece_apart (part_of p (meet_child (both C) C (level_of a child))))
     (across_parts (both C) C s t p (level_of a hroot) (level_of a l) (level_of a child) (level_of a r) opened is_p)
 
@@ -199,7 +209,7 @@ has_items s sound k (Some v) is there =
       is = level_of-parts s sound k (record { span = v.span; child = v.child; left = v.left; right = v.right }) (ap parts_in is) ∙ items.is;
     }
 
-lent_items : (s : Slab Node) → IsSound s [] → (r : Option ℕ) (k : ℕ) → r ≡ Some k → Lent s [] r → HasItems (level_of s r)
+pub lent_items : (s : Slab Node) → IsSound s [] → (r : Option ℕ) (k : ℕ) → r ≡ Some k → Lent s [] r → HasItems (level_of s r)
 lent_items s sound None k is lent = absurd (cc is)
 lent_items s sound (Some j) k is lent = has_items s sound j (get s j) refl lent.there
 

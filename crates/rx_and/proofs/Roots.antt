@@ -20,12 +20,12 @@ use Rattle.rx_graph.proofs.Steps.{canonical_given}
 use Rattle.rx_graph.proofs.Amounts.{counted}
 use Rattle.rx_and.proofs.Meets.{HasItems, has_items}
 
-times_first : (g h : Root) → 1 ≤ times g (g ∷ h ∷ [])
+pub times_first : (g h : Root) → 1 ≤ times g (g ∷ h ∷ [])
 times_first Everything h = omega arith
 times_first Nothing h = omega arith
 times_first (Items k) h = grind arith
 
-times_second : (g h : Root) → 1 ≤ times h (g ∷ h ∷ [])
+pub times_second : (g h : Root) → 1 ≤ times h (g ∷ h ∷ [])
 times_second g Everything = omega arith
 times_second g Nothing = omega arith
 times_second g (Items k) = grind arith

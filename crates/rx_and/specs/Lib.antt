@@ -1,2 +1,3 @@
 pub mod Apart
-pub mod Graft
+pub mod Rising
+pub mod Before

@@ -1,48 +1,19 @@
 //! What two graphs have in common.
 
-ghost use Rattle.std.specs.Prelude.{◌≡◌, ◌<◌, ◌≤◌, ◌^◌, ◌+◌, ◌&&◌, ℕ, List, [], ◌∷◌, Option, Some, None, IfOk, IfErr, OnOk, OnErr};
+ghost use Rattle.std.specs.Prelude.{◌≡◌, ◌<◌, ◌≤◌, ◌^◌, ◌+◌, ◌&&◌, ℕ, List, [], ◌∷◌, Some, None, IfOk, IfErr, OnOk, OnErr};
+ghost use Rattle.slab.specs.Slab.{slab_len};
 ghost use Rattle.rx_value.specs.declared.order.End.{End as end_of_span};
-ghost use Rattle.rx_tree.specs.Tree.{Level, level_size, size};
-ghost use Rattle.rx_tree.specs.Tree.Tree.{items as items_tree};
+ghost use Rattle.rx_tree.specs.Tree.{size};
 ghost use Rattle.rx_tree.specs.Member.{holds};
-ghost use Rattle.rx_tree.specs.Meet.{both as both_level, tree_and};
-ghost use Rattle.rx_level.specs.Step.{Owns, Step, level_of};
+ghost use Rattle.rx_tree.specs.Meet.{tree_and};
+ghost use Rattle.rx_level.specs.Under.{IsNumberUnder};
 ghost use Rattle.rx_graph.specs.declared.handles.Root.TheVariants.{Items as items_root};
-ghost use Rattle.rx_graph.specs.Graph.{Steps, IsHeld, AreCanonical, handle_count, tree_in};
+ghost use Rattle.rx_graph.specs.Graph.{Steps, IsHeld, AreCanonical, handle_count, link_of, tree_in};
+ghost use Rattle.rx_and.specs.Before.{IsBefore};
 
-use crate::meeting::both;
+use crate::levels::level_and;
 use rx_graph::{Arena, GraphFault, Handle, Root};
-use rx_level::Levels;
 use std::alloc::Global;
-
-// What two levels have in common. Both handles are spent in every case.
-fn level_and(
-    alloc: Global,
-    levels: &mut Levels,
-    g: usize,
-    h: usize,
-    limit: u64,
-) -> Result<Option<usize>, GraphFault>
-    requires { Owns levels.old (Some g ∷ Some h ∷ []) }
-    ensures ok { IfOk result (λ r. Step levels.old levels.new (Some g ∷ Some h ∷ []) (r ∷ [])) }
-    ensures level { IfOk result (λ r. level_of levels.new r ≡ both_level (level_of levels.old (Some g)) (level_of levels.old (Some h))) }
-    ensures small { IfOk result (λ r. level_size (level_of levels.new r) ≤ limit) }
-    ensures over { IfErr result (λ fault. fault ≡ GraphFault.OverLimit → limit < level_size (both_level (level_of levels.old (Some g)) (level_of levels.old (Some h)))) }
-    ensures err { OnErr result (Step levels.old levels.new (Some g ∷ Some h ∷ []) []) }
-{
-    match both(levels, alloc, limit, Some(g), Some(h)) {
-        Ok(whole) => {
-            levels.free(Some(g));
-            levels.free(Some(h));
-            Ok(whole)
-        }
-        Err(fault) => {
-            levels.free(Some(g));
-            levels.free(Some(h));
-            Err(fault)
-        }
-    }
-}
 
 // What two graphs with items have in common. Both are spent in every case.
 fn items_and(
@@ -54,15 +25,18 @@ fn items_and(
 ) -> Result<Handle, GraphFault>
     requires held { IsHeld arena.old (items_root g ∷ items_root h ∷ []) }
     requires few { handle_count arena.old < 2 ^ 32 }
+    requires canonical { AreCanonical arena.old }
     ensures ok { IfOk result (λ r. Steps arena.old arena.new (items_root g ∷ items_root h ∷ []) (r ∷ [])) }
     ensures tree { IfOk result (λ r. tree_in arena.new r ≡ tree_and (tree_in arena.old (items_root g)) (tree_in arena.old (items_root h))) }
     ensures small { IfOk result (λ r. size (tree_in arena.new r) ≤ limit) }
     ensures over { IfErr result (λ fault. fault ≡ GraphFault.OverLimit → limit < size (tree_and (tree_in arena.old (items_root g)) (tree_in arena.old (items_root h)))) }
+    ensures live { OnOk result (IsBefore arena.old.nullable (tree_in arena.old (items_root g)) (tree_in arena.old (items_root h)) → (n : ℕ) → IsNumberUnder arena.old.store (Some g) n → slab_len arena.new.store ≤ slab_len arena.old.store + n) }
+    ensures items { IfOk result (λ r. IsBefore arena.old.nullable (tree_in arena.old (items_root g)) (tree_in arena.old (items_root h)) → (n m k : ℕ) → IsNumberUnder arena.old.store (Some g) n → IsNumberUnder arena.old.store (Some h) m → IsNumberUnder arena.new.store (link_of r) k → k ≤ n + m) }
     ensures err { OnErr result (Steps arena.old arena.new (items_root g ∷ items_root h ∷ []) []) }
 {
     arena.sound();
     let mut levels = arena.take_levels();
-    let made = level_and(alloc, &mut levels, g, h, limit);
+    let made = level_and(alloc, &mut levels, arena.parts(), g, h, limit);
     arena.put_levels(levels);
     let whole = match made {
         Ok(whole) => whole,
@@ -82,6 +56,7 @@ fn within(arena: &mut Arena, h: Handle, limit: u64) -> Result<Handle, GraphFault
     ensures small { IfOk result (λ r. size (tree_in arena.new r) ≤ limit) }
     ensures over { OnErr result (limit < size (tree_in arena.old h)) }
     ensures err { OnErr result (Steps arena.old arena.new (h ∷ []) []) }
+    ensures same { IfOk result (λ r. (r ≡ h) × (arena.new ≡ arena.old)) }
     ensures count { OnOk result (handle_count arena.new ≡ handle_count arena.old) }
     ensures err_count { OnErr result (handle_count arena.new + 1 ≡ handle_count arena.old) }
 {
@@ -101,6 +76,9 @@ fn second(arena: &mut Arena, spare: Handle, h: Handle, limit: u64) -> Result<Han
     ensures small { IfOk result (λ r. size (tree_in arena.new r) ≤ limit) }
     ensures over { OnErr result (limit < size (tree_in arena.old h)) }
     ensures err { OnErr result (Steps arena.old arena.new (spare ∷ h ∷ []) []) }
+    ensures root { IfOk result (λ r. r ≡ h) }
+    ensures live { OnOk result (slab_len arena.new.store ≤ slab_len arena.old.store) }
+    ensures store { link_of spare ≡ None → OnOk result (arena.new.store ≡ arena.old.store) }
     ensures count { OnOk result (handle_count arena.new + 1 ≡ handle_count arena.old) }
     ensures err_count { OnErr result (handle_count arena.new + 2 ≡ handle_count arena.old) }
 {
@@ -112,6 +90,9 @@ fn second(arena: &mut Arena, spare: Handle, h: Handle, limit: u64) -> Result<Han
 }
 
 /// The keys that both graphs hold. Both are spent in every case, and every other handle keeps its tree.
+/// Where every part that the first constrains comes before every part that the second constrains, at most as
+/// many new items are made as the first has different ones, and the answer has at most as many different
+/// items as both together.
 ///
 /// # Errors
 ///
@@ -126,15 +107,18 @@ pub fn and(
 ) -> Result<Handle, GraphFault>
     requires held { IsHeld arena.old (g ∷ h ∷ []) }
     requires few { handle_count arena.old < 2 ^ 32 }
+    requires canonical { AreCanonical arena.old }
     ensures ok { IfOk result (λ r. Steps arena.old arena.new (g ∷ h ∷ []) (r ∷ [])) }
     ensures tree { IfOk result (λ r. tree_in arena.new r ≡ tree_and (tree_in arena.old g) (tree_in arena.old h)) }
-    ensures keys { IfOk result (λ r. AreCanonical arena.old → (ps : List end_of_span) → holds (tree_in arena.new r) ps ≡ (holds (tree_in arena.old g) ps && holds (tree_in arena.old h) ps)) }
+    ensures keys { IfOk result (λ r. (ps : List end_of_span) → holds (tree_in arena.new r) ps ≡ (holds (tree_in arena.old g) ps && holds (tree_in arena.old h) ps)) }
     ensures small { IfOk result (λ r. size (tree_in arena.new r) ≤ limit) }
     ensures over { IfErr result (λ fault. fault ≡ GraphFault.OverLimit → limit < size (tree_and (tree_in arena.old g) (tree_in arena.old h))) }
+    ensures live { OnOk result (IsBefore arena.old.nullable (tree_in arena.old g) (tree_in arena.old h) → (n : ℕ) → IsNumberUnder arena.old.store (link_of g) n → slab_len arena.new.store ≤ slab_len arena.old.store + n) }
+    ensures items { IfOk result (λ r. IsBefore arena.old.nullable (tree_in arena.old g) (tree_in arena.old h) → (n m k : ℕ) → IsNumberUnder arena.old.store (link_of g) n → IsNumberUnder arena.old.store (link_of h) m → IsNumberUnder arena.new.store (link_of r) k → k ≤ n + m) }
     ensures err { OnErr result (Steps arena.old arena.new (g ∷ h ∷ []) []) }
     ensures count { OnOk result (handle_count arena.new + 1 ≡ handle_count arena.old) }
     ensures err_count { OnErr result (handle_count arena.new + 2 ≡ handle_count arena.old) }
-    ensures canonical { AreCanonical arena.old → AreCanonical arena.new }
+    ensures canonical { AreCanonical arena.new }
 {
     match (g.root(), h.root()) {
         (Root::Items(first), Root::Items(next)) => {
@@ -145,9 +129,21 @@ pub fn and(
                 Err(fault) => Err(fault),
             }
         }
-        (Root::Everything, _) => second(arena, g, h, limit),
-        (Root::Nothing, _) => second(arena, h, g, limit),
-        (_, Root::Everything) => second(arena, h, g, limit),
-        (_, Root::Nothing) => second(arena, g, h, limit),
+        (Root::Everything, _) => match second(arena, g, h, limit) {
+            Ok(whole) => Ok(whole),
+            Err(fault) => Err(fault),
+        },
+        (Root::Nothing, _) => match second(arena, h, g, limit) {
+            Ok(whole) => Ok(whole),
+            Err(fault) => Err(fault),
+        },
+        (_, Root::Everything) => match second(arena, h, g, limit) {
+            Ok(whole) => Ok(whole),
+            Err(fault) => Err(fault),
+        },
+        (_, Root::Nothing) => match second(arena, g, h, limit) {
+            Ok(whole) => Ok(whole),
+            Err(fault) => Err(fault),
+        },
     }
 }

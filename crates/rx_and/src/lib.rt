@@ -3,10 +3,11 @@
 
 mod gluing;
 mod graphs;
-mod laws;
+mod levels;
 mod meeting;
+#[cfg(test)]
+mod scale;
 #[cfg(test)]
 mod tests;
 
 pub use graphs::and;
-pub use laws::earlier_parts_keep_their_items;

@@ -1,18 +1,21 @@
 //! What two levels have in common.
 
-ghost use Rattle.std.specs.Prelude.{◌≡◌, ◌<◌, ◌≤◌, ℕ, List, [], ◌∷◌, Option, Some, None, IfOk, IfErr, OnErr};
+ghost use Rattle.std.specs.Prelude.{◌≡◌, ◌<◌, ◌≤◌, ℕ, cond, List, [], ◌∷◌, Option, Some, None, IfOk, IfErr, OnErr};
+ghost use Rattle.rx_value.specs.Order.{is_at_most};
 ghost use Rattle.rx_value.specs.Spans.{meet_span};
 ghost use Rattle.rx_tree.specs.Tree.{Level, level_size};
 ghost use Rattle.rx_tree.specs.Tree.Level.{end, item as one_item};
 ghost use Rattle.rx_tree.specs.Meet.{part_of, put_part, meet_child, across as across_level, both as both_level};
 ghost use Rattle.rx_level.specs.Store.{IsSound};
 ghost use Rattle.rx_level.specs.Step.{Owns, Step, Lent, level_of};
+ghost use Rattle.rx_and.specs.Rising.{AreRising};
 
 use crate::gluing::glue_three;
 use rx_graph::GraphFault;
 use rx_level::{Item, Levels, copy_end, copy_span};
-use rx_value::{Span, meet};
+use rx_value::{Span, compare_ends, meet};
 use std::alloc::{AllocError, Global};
+use std::cmp::Ordering;
 
 // A copy of the common part of two spans.
 fn common_span(alloc: Global, s: &Span, t: &Span) -> Result<Option<Span>, AllocError>
@@ -26,8 +29,35 @@ fn common_span(alloc: Global, s: &Span, t: &Span) -> Result<Option<Span>, AllocE
     Ok(Some(Span { lo, hi }))
 }
 
-// A level of one item over a lent level.
-fn alone(levels: &mut Levels, span: Span, child: Option<usize>) -> Result<Option<usize>, AllocError>
+// The items to the left of one, unless a span begins where that one does or later: then it has nothing in
+// common with them.
+fn reached_left(span: &Span, item: &Span, left: Option<usize>) -> Option<usize>
+    ensures { result ≡ cond (is_at_most item.now.lo span.now.lo) None left }
+{
+    match compare_ends(&item.lo, &span.lo) {
+        Ordering::Greater => left,
+        _ => None,
+    }
+}
+
+// The items to the right of one, unless a span ends where that one does or before: then it has nothing in
+// common with them.
+fn reached_right(span: &Span, item: &Span, right: Option<usize>) -> Option<usize>
+    ensures { result ≡ cond (is_at_most span.now.hi item.now.hi) None right }
+{
+    match compare_ends(&span.hi, &item.hi) {
+        Ordering::Greater => right,
+        _ => None,
+    }
+}
+
+// A level of one item, which is of this part, over a lent level.
+fn alone(
+    levels: &mut Levels,
+    at: u32,
+    span: Span,
+    child: Option<usize>,
+) -> Result<Option<usize>, AllocError>
     requires sound { IsSound levels.old [] }
     requires child { Lent levels.old [] child }
     ensures ok { IfOk result (λ r. Step levels.old levels.new [] (r ∷ [])) }
@@ -35,17 +65,23 @@ fn alone(levels: &mut Levels, span: Span, child: Option<usize>) -> Result<Option
     ensures err { OnErr result (Step levels.old levels.new [] []) }
 {
     levels.hold(child)?;
-    let whole = levels.branch(Item { span, child }, None, None)?;
+    let item = Item {
+        part: at,
+        span,
+        child,
+    };
+    let whole = levels.branch(item, None, None)?;
     Ok(whole)
 }
 
 // What an item of the common part of two items' spans, where there is one, leads to: nothing where the
-// children have nothing in common.
+// children have nothing in common. The two items are of the part `at`.
 #[cycle(meet)]
 fn piece(
     levels: &mut Levels,
     alloc: Global,
     limit: u64,
+    at: u32,
     part: Option<Span>,
     c: Option<usize>,
     d: Option<usize>,
@@ -53,6 +89,7 @@ fn piece(
     requires sound { IsSound levels.old [] }
     requires c { Lent levels.old [] c }
     requires d { Lent levels.old [] d }
+    requires rising { AreRising (level_of levels.old d) }
     ensures ok { IfOk result (λ r. Step levels.old levels.new [] (r ∷ [])) }
     ensures level { IfOk result (λ r. level_of levels.new r ≡ put_part (part_of part (meet_child (both_level (level_of levels.old c)) (level_of levels.old c) (level_of levels.old d))) end) }
     ensures over { IfErr result (λ fault. fault ≡ GraphFault.OverLimit → limit < level_size (put_part (part_of part (meet_child (both_level (level_of levels.old c)) (level_of levels.old c) (level_of levels.old d))) end)) }
@@ -62,13 +99,13 @@ fn piece(
         return Ok(None);
     };
     let Some(_) = c else {
-        let Ok(whole) = alone(levels, span, d) else {
+        let Ok(whole) = alone(levels, at, span, d) else {
             return Err(GraphFault::NoMemory);
         };
         return Ok(whole);
     };
     let Some(_) = d else {
-        let Ok(whole) = alone(levels, span, c) else {
+        let Ok(whole) = alone(levels, at, span, c) else {
             return Err(GraphFault::NoMemory);
         };
         return Ok(whole);
@@ -80,13 +117,19 @@ fn piece(
     let Some(_) = child else {
         return Ok(None);
     };
-    let Ok(whole) = levels.branch(Item { span, child }, None, None) else {
+    let item = Item {
+        part: at,
+        span,
+        child,
+    };
+    let Ok(whole) = levels.branch(item, None, None) else {
         return Err(GraphFault::NoMemory);
     };
     Ok(whole)
 }
 
-// What an item and a lent level have in common.
+// What an item and a lent level have in common. It reads those items of the level that its span overlaps,
+// and those on the way to them in the level's tree.
 #[cycle(meet)]
 fn across(
     levels: &mut Levels,
@@ -99,6 +142,7 @@ fn across(
     requires sound { IsSound levels.old [] }
     requires c { Lent levels.old [] c }
     requires h { Lent levels.old [] h }
+    requires rising { AreRising (level_of levels.old h) }
     ensures ok { IfOk result (λ r. Step levels.old levels.new [] (r ∷ [])) }
     ensures level { IfOk result (λ r. level_of levels.new r ≡ across_level (both_level (level_of levels.old c)) (level_of levels.old c) span.now (level_of levels.old h)) }
     ensures small { IfOk result (λ r. level_size (level_of levels.new r) ≤ limit) }
@@ -108,13 +152,14 @@ fn across(
     let Some(seen) = levels.look(h) else {
         return Ok(None);
     };
+    let at = seen.part;
     let child = seen.child;
-    let left = seen.left;
-    let right = seen.right;
+    let left = reached_left(span, seen.span, seen.left);
+    let right = reached_right(span, seen.span, seen.right);
     let Ok(part) = common_span(alloc, span, seen.span) else {
         return Err(GraphFault::NoMemory);
     };
-    let middle = match piece(levels, alloc, limit, part, c, child) {
+    let middle = match piece(levels, alloc, limit, at, part, c, child) {
         Ok(middle) => middle,
         Err(fault) => return Err(fault),
     };
@@ -139,8 +184,8 @@ fn across(
     }
 }
 
-/// What two lent levels have in common, item by item of the first. OverLimit comes where it has more
-/// items than the limit, counted at each place.
+/// What two lent levels have in common, item by item of the first; the items of the second rise. OverLimit
+/// comes where it has more items than the limit, counted at each place.
 #[cycle(meet)]
 pub fn both(
     levels: &mut Levels,
@@ -152,6 +197,7 @@ pub fn both(
     requires sound { IsSound levels.old [] }
     requires g { Lent levels.old [] g }
     requires h { Lent levels.old [] h }
+    requires rising { AreRising (level_of levels.old h) }
     ensures ok { IfOk result (λ r. Step levels.old levels.new [] (r ∷ [])) }
     ensures level { IfOk result (λ r. level_of levels.new r ≡ both_level (level_of levels.old g) (level_of levels.old h)) }
     ensures small { IfOk result (λ r. level_size (level_of levels.new r) ≤ limit) }

@@ -1,5 +1,5 @@
-ghost use Rattle.std.specs.Prelude.{◌<◌, ◌-◌, ◌^◌, List, [], ◌∷◌};
-ghost use Rattle.rx_graph.specs.Graph.{IsHeld, handle_count};
+ghost use Rattle.std.specs.Prelude.{◌≡◌, ◌<◌, ◌-◌, ◌^◌, List, [], ◌∷◌};
+ghost use Rattle.rx_graph.specs.Graph.{IsHeld, Steps, AreCanonical, handle_count};
 
 use crate::graphs::and;
 use rx_graph::{Arena, GraphFault, Handle};
@@ -16,13 +16,16 @@ struct Stretch {
     last: i128,
 }
 
-/// What a graph is made of.
+/// What a graph is made of, with all items of the arena while the handle that shared the first is held, the
+/// tree of that handle, and all items without it.
 #[derive(Clone, Copy, Debug, PartialEq, Eq)]
 struct Made {
     size: u64,
     items: u64,
     live: u64,
     other: u64,
+    alone: u64,
+    nothing: bool,
 }
 
 fn cut(n: i128, side: Side) -> End {
@@ -45,6 +48,21 @@ fn spans_of(alloc: Global, points: Stretch) -> Result<SpanList, AllocError> {
 
 const fn points(part: u32, first: i128, last: i128) -> Stretch {
     Stretch { part, first, last }
+}
+
+// Whether a graph is the same as nothing.
+fn is_nothing(arena: &mut Arena, h: &Handle) -> bool
+    requires held { IsHeld arena.old (h.now ∷ []) }
+    requires few { handle_count arena.old < 2 ^ 32 - 1 }
+    requires canonical { AreCanonical arena.old }
+    ensures step { Steps arena.old arena.new [] [] }
+    ensures count { handle_count arena.new ≡ handle_count arena.old }
+    ensures canonical { AreCanonical arena.new }
+{
+    let none = arena.nothing();
+    let same = arena.same(h, &none);
+    arena.release(none);
+    same
 }
 
 // What two graphs of an arena of two parts have in common, None where it has more items than the limit.
@@ -75,13 +93,16 @@ fn common(
             let live = arena.live();
             assert_eq!(rt; arena.handles(), 2);
             let kept = arena.tree_size(&other);
-            arena.release(whole);
             arena.release(other);
+            let (alone, nothing) = (arena.live(), is_nothing(&mut arena, &whole));
+            arena.release(whole);
             Some(Made {
                 size,
                 items: items?,
                 live,
                 other: kept,
+                alone,
+                nothing,
             })
         }
         Err(GraphFault::OverLimit) => {
@@ -100,18 +121,27 @@ fn common(
 #[test]
 fn points_in_common(rt: HostRuntime) -> Result<(), Fail> {
     let rows = [
-        (points(0, 1, 2), points(0, 2, 3), 9, Some((1, 1, 3, 2))),
-        (points(0, 1, 1), points(0, 2, 2), 9, Some((0, 0, 1, 1))),
-        (points(0, 1, 1), points(0, 2, 2), 0, Some((0, 0, 1, 1))),
-        (points(0, 1, 3), points(1, 1, 4), 15, Some((15, 7, 10, 3))),
+        (points(0, 1, 2), points(0, 2, 3), 9, Some((1, 1, 3, 2, 1))),
+        (points(0, 1, 1), points(0, 2, 2), 9, Some((0, 0, 1, 1, 0))),
+        (points(0, 1, 1), points(0, 2, 2), 0, Some((0, 0, 1, 1, 0))),
+        (
+            points(0, 1, 3),
+            points(1, 1, 4),
+            15,
+            Some((15, 7, 10, 3, 7)),
+        ),
         (points(0, 1, 3), points(1, 1, 4), 14, None),
-        (points(1, 1, 4), points(0, 1, 3), 15, Some((15, 7, 8, 5))),
+        (points(1, 1, 4), points(0, 1, 3), 15, Some((15, 7, 8, 5, 7))),
         (points(1, 1, 4), points(0, 1, 3), 14, None),
     ];
     for (g, h, limit, wanted) in rows {
         let made = common(&rt, rt.alloc(), g, h, limit)?;
-        let told = made.map(|made| (made.size, made.items, made.live, made.other));
+        let told = made.map(|made| (made.size, made.items, made.live, made.other, made.alone));
         assert_eq!(rt; told, wanted);
+        assert_eq!(rt;
+            made.map(|made| made.nothing),
+            made.map(|made| made.size == 0)
+        );
     }
     Ok(())
 }
@@ -121,6 +151,7 @@ fn points_in_common(rt: HostRuntime) -> Result<(), Fail> {
 fn joined(alloc: Global, arena: &mut Arena, g: Handle, part: u32, limit: u64) -> Result<u32, Fail>
     requires held { IsHeld arena.old (g ∷ []) }
     requires few { handle_count arena.old < 2 ^ 32 - 1 }
+    requires canonical { AreCanonical arena.old }
 {
     if part >= 6 {
         arena.release(g);

@@ -3,14 +3,16 @@ use Rattle.rx_tree.specs.Tree.{level_size}
 use Rattle.rx_tree.specs.Meet.{across as across_level}
 use Rattle.rx_tree.specs.Meet.{both as both_level}
 use Rattle.rx_level.specs.Step.{level_of}
-use Rattle.rx_and.proofs.Meets.{smaller, stays, stays_two, across_within, both_within, across_later, both_later, over_later, crossed, met, piece_over, piece_none, piece_some}
+use Rattle.rx_and.proofs.Rising.{opened_risen, keeps_before, keeps_after}
+use Rattle.rx_and.proofs.Meets.{smaller, stays, stays_two, across_within, both_within, across_kept, rises_later, both_later, over_later, crossed, met, piece_over, piece_none, piece_some}
 use Rattle.rx_and.proofs.meeting.+meet.Goals as goal
 
 pub across-piece-requires : goal.across-piece-requires
 across-piece-requires t c =
     let o = c.in-Some.seen in
     let less = smaller _ _ _ _ o.span.now c.in-Some.ensures.level in
-    (omega (arith, less.child, c.decreases), (c.requires.sound, (c.requires.c, c.in-Some.ensures.child)))
+    let rise = opened_risen _ _ o.span.now _ _ c.in-Some.ensures.level c.requires.rising in
+    (omega (arith, less.child, c.decreases), (c.requires.sound, (c.requires.c, (c.in-Some.ensures.child, rise.on.2))))
 
 pub across-returns-in-Err-clause-over : goal.across-returns-in-Err-clause-over
 across-returns-in-Err-clause-over t c e =
@@ -26,8 +28,9 @@ across-across-requires t c =
     let one = c.in-Ok-piece.ensures.ok in
     let less = smaller _ _ _ _ o.span.now c.in-Some.ensures.level in
     let c1 = stays a _ _ c.requires.sound one c.args.c c.requires.c in
-    let l1 = stays a _ _ c.requires.sound one o.left c.in-Some.ensures.left in
-    (omega (arith, less.left, c1.size_same, l1.size_same, c.decreases), (one.sound, (c1.lent, l1.lent)))
+    let low = keeps_before a c.args.span.now o.span.now c.args.h o.child o.left o.right c.reached_left-left.result c.in-Some.ensures.level c.requires.rising c.in-Some.ensures.left c.reached_left-left.ensures in
+    let l1 = stays a _ _ c.requires.sound one c.reached_left-left.result low.lent in
+    (omega (arith, less.left, low.few, c1.size_same, l1.size_same, c.decreases), (one.sound, (c1.lent, (l1.lent, rises_later _ _ _ l1 low.rising))))
 
 pub across-returns-in-Err-across-clause-over : goal.across-returns-in-Err-across-clause-over
 across-returns-in-Err-across-clause-over t c e =
@@ -35,8 +38,9 @@ across-returns-in-Err-across-clause-over t c e =
     let a = c.args.levels.now in
     let one = c.in-Ok-piece.ensures.ok in
     let w = across_within (both_level (level_of a c.args.c)) (level_of a c.args.c) c.args.span.now o.span.now c.in-Ok.part _ _ _ _ c.in-Some.ensures.level c.in-Ok.ensures in
+    let low = keeps_before a c.args.span.now o.span.now c.args.h o.child o.left o.right c.reached_left-left.result c.in-Some.ensures.level c.requires.rising c.in-Some.ensures.left c.reached_left-left.ensures in
     over_later c.args.limit _ _ _ (c.in-Err-across.ensures.over e)
-    (across_later a c.piece.new.levels c.args.c o.left c.args.span.now (stays a _ _ c.requires.sound one c.args.c c.requires.c) (stays a _ _ c.requires.sound one o.left c.in-Some.ensures.left))
+    (across_kept a c.piece.new.levels c.args.c o.left c.reached_left-left.result c.args.span.now low (stays a _ _ c.requires.sound one c.args.c c.requires.c) (stays a _ _ c.requires.sound one c.reached_left-left.result low.lent))
     w.first
 
 pub across-across-requires-2 : goal.across-across-requires-2
@@ -47,8 +51,9 @@ across-across-requires-2 t c =
     let two = c.in-Ok-across.ensures.ok in
     let less = smaller _ _ _ _ o.span.now c.in-Some.ensures.level in
     let c2 = stays_two a _ _ _ _ c.requires.sound one two c.args.c c.requires.c in
-    let r2 = stays_two a _ _ _ _ c.requires.sound one two o.right c.in-Some.ensures.right in
-    (omega (arith, less.right, c2.size_same, r2.size_same, c.decreases), (two.sound, (c2.lent, r2.lent)))
+    let high = keeps_after a c.args.span.now o.span.now c.args.h o.child o.left o.right c.reached_right-right.result c.in-Some.ensures.level c.requires.rising c.in-Some.ensures.right c.reached_right-right.ensures in
+    let r2 = stays_two a _ _ _ _ c.requires.sound one two c.reached_right-right.result high.lent in
+    (omega (arith, less.right, high.few, c2.size_same, r2.size_same, c.decreases), (two.sound, (c2.lent, (r2.lent, rises_later _ _ _ r2 high.rising))))
 
 pub across-returns-in-Err-across-2-clause-over : goal.across-returns-in-Err-across-2-clause-over
 across-returns-in-Err-across-2-clause-over t c e =
@@ -57,37 +62,50 @@ across-returns-in-Err-across-2-clause-over t c e =
     let one = c.in-Ok-piece.ensures.ok in
     let two = c.in-Ok-across.ensures.ok in
     let w = across_within (both_level (level_of a c.args.c)) (level_of a c.args.c) c.args.span.now o.span.now c.in-Ok.part _ _ _ _ c.in-Some.ensures.level c.in-Ok.ensures in
+    let high = keeps_after a c.args.span.now o.span.now c.args.h o.child o.left o.right c.reached_right-right.result c.in-Some.ensures.level c.requires.rising c.in-Some.ensures.right c.reached_right-right.ensures in
     over_later c.args.limit _ _ _ (c.in-Err-across-2.ensures.over e)
-    (across_later a c.across.new.levels c.args.c o.right c.args.span.now (stays_two a _ _ _ _ c.requires.sound one two c.args.c c.requires.c) (stays_two a _ _ _ _ c.requires.sound one two o.right c.in-Some.ensures.right))
+    (across_kept a c.across.new.levels c.args.c o.right c.reached_right-right.result c.args.span.now high (stays_two a _ _ _ _ c.requires.sound one two c.args.c c.requires.c) (stays_two a _ _ _ _ c.requires.sound one two c.reached_right-right.result high.lent))
     w.third
 
 pub across-glue_three-requires-clause-left : goal.across-glue_three-requires-clause-left
 across-glue_three-requires-clause-left t c =
     let o = c.in-Some.seen in
-    (crossed c.args.levels.now c.piece.new.levels c.across.new.levels c.across-2.new.levels c.args.h c.args.c o.child o.left o.right c.in-Ok-piece.middle c.in-Ok-across.front c.in-Ok-across-2.back c.args.span.now o.span.now c.in-Ok.part
-    c.requires.sound c.requires.c c.in-Some.ensures.left c.in-Some.ensures.right c.in-Some.ensures.level c.in-Ok.ensures
+    let a = c.args.levels.now in
+    let low = keeps_before a c.args.span.now o.span.now c.args.h o.child o.left o.right c.reached_left-left.result c.in-Some.ensures.level c.requires.rising c.in-Some.ensures.left c.reached_left-left.ensures in
+    let high = keeps_after a c.args.span.now o.span.now c.args.h o.child o.left o.right c.reached_right-right.result c.in-Some.ensures.level c.requires.rising c.in-Some.ensures.right c.reached_right-right.ensures in
+    (crossed a c.piece.new.levels c.across.new.levels c.across-2.new.levels c.args.h c.args.c o.child o.left o.right c.reached_left-left.result c.reached_right-right.result c.in-Ok-piece.middle c.in-Ok-across.front c.in-Ok-across-2.back c.args.span.now o.span.now c.in-Ok.part
+    c.requires.sound c.requires.c low high c.in-Some.ensures.level c.in-Ok.ensures
     c.in-Ok-piece.ensures.ok c.in-Ok-piece.ensures.level c.in-Ok-across.ensures.ok c.in-Ok-across.ensures.level c.in-Ok-across-2.ensures.ok c.in-Ok-across-2.ensures.level).front_apart
 
 pub across-glue_three-requires-clause-middle : goal.across-glue_three-requires-clause-middle
 across-glue_three-requires-clause-middle t c =
     let o = c.in-Some.seen in
-    (crossed c.args.levels.now c.piece.new.levels c.across.new.levels c.across-2.new.levels c.args.h c.args.c o.child o.left o.right c.in-Ok-piece.middle c.in-Ok-across.front c.in-Ok-across-2.back c.args.span.now o.span.now c.in-Ok.part
-    c.requires.sound c.requires.c c.in-Some.ensures.left c.in-Some.ensures.right c.in-Some.ensures.level c.in-Ok.ensures
+    let a = c.args.levels.now in
+    let low = keeps_before a c.args.span.now o.span.now c.args.h o.child o.left o.right c.reached_left-left.result c.in-Some.ensures.level c.requires.rising c.in-Some.ensures.left c.reached_left-left.ensures in
+    let high = keeps_after a c.args.span.now o.span.now c.args.h o.child o.left o.right c.reached_right-right.result c.in-Some.ensures.level c.requires.rising c.in-Some.ensures.right c.reached_right-right.ensures in
+    (crossed a c.piece.new.levels c.across.new.levels c.across-2.new.levels c.args.h c.args.c o.child o.left o.right c.reached_left-left.result c.reached_right-right.result c.in-Ok-piece.middle c.in-Ok-across.front c.in-Ok-across-2.back c.args.span.now o.span.now c.in-Ok.part
+    c.requires.sound c.requires.c low high c.in-Some.ensures.level c.in-Ok.ensures
     c.in-Ok-piece.ensures.ok c.in-Ok-piece.ensures.level c.in-Ok-across.ensures.ok c.in-Ok-across.ensures.level c.in-Ok-across-2.ensures.ok c.in-Ok-across-2.ensures.level).middle_apart
 
 pub across-returns-in-Ok-glue_three-clause-level : goal.across-returns-in-Ok-glue_three-clause-level
 across-returns-in-Ok-glue_three-clause-level t c =
     let o = c.in-Some.seen in
+    let a = c.args.levels.now in
+    let low = keeps_before a c.args.span.now o.span.now c.args.h o.child o.left o.right c.reached_left-left.result c.in-Some.ensures.level c.requires.rising c.in-Some.ensures.left c.reached_left-left.ensures in
+    let high = keeps_after a c.args.span.now o.span.now c.args.h o.child o.left o.right c.reached_right-right.result c.in-Some.ensures.level c.requires.rising c.in-Some.ensures.right c.reached_right-right.ensures in
     c.in-Ok-glue_three.ensures.level
-    ∙ (crossed c.args.levels.now c.piece.new.levels c.across.new.levels c.across-2.new.levels c.args.h c.args.c o.child o.left o.right c.in-Ok-piece.middle c.in-Ok-across.front c.in-Ok-across-2.back c.args.span.now o.span.now c.in-Ok.part
-    c.requires.sound c.requires.c c.in-Some.ensures.left c.in-Some.ensures.right c.in-Some.ensures.level c.in-Ok.ensures
+    ∙ (crossed a c.piece.new.levels c.across.new.levels c.across-2.new.levels c.args.h c.args.c o.child o.left o.right c.reached_left-left.result c.reached_right-right.result c.in-Ok-piece.middle c.in-Ok-across.front c.in-Ok-across-2.back c.args.span.now o.span.now c.in-Ok.part
+    c.requires.sound c.requires.c low high c.in-Some.ensures.level c.in-Ok.ensures
     c.in-Ok-piece.ensures.ok c.in-Ok-piece.ensures.level c.in-Ok-across.ensures.ok c.in-Ok-across.ensures.level c.in-Ok-across-2.ensures.ok c.in-Ok-across-2.ensures.level).is
 
 pub across-returns-in-Err-glue_three-clause-over : goal.across-returns-in-Err-glue_three-clause-over
 across-returns-in-Err-glue_three-clause-over t c e =
     let o = c.in-Some.seen in
-    let is = ap level_size (crossed c.args.levels.now c.piece.new.levels c.across.new.levels c.across-2.new.levels c.args.h c.args.c o.child o.left o.right c.in-Ok-piece.middle c.in-Ok-across.front c.in-Ok-across-2.back c.args.span.now o.span.now c.in-Ok.part
-    c.requires.sound c.requires.c c.in-Some.ensures.left c.in-Some.ensures.right c.in-Some.ensures.level c.in-Ok.ensures
+    let a = c.args.levels.now in
+    let low = keeps_before a c.args.span.now o.span.now c.args.h o.child o.left o.right c.reached_left-left.result c.in-Some.ensures.level c.requires.rising c.in-Some.ensures.left c.reached_left-left.ensures in
+    let high = keeps_after a c.args.span.now o.span.now c.args.h o.child o.left o.right c.reached_right-right.result c.in-Some.ensures.level c.requires.rising c.in-Some.ensures.right c.reached_right-right.ensures in
+    let is = ap level_size (crossed a c.piece.new.levels c.across.new.levels c.across-2.new.levels c.args.h c.args.c o.child o.left o.right c.reached_left-left.result c.reached_right-right.result c.in-Ok-piece.middle c.in-Ok-across.front c.in-Ok-across-2.back c.args.span.now o.span.now c.in-Ok.part
+    c.requires.sound c.requires.c low high c.in-Some.ensures.level c.in-Ok.ensures
     c.in-Ok-piece.ensures.ok c.in-Ok-piece.ensures.level c.in-Ok-across.ensures.ok c.in-Ok-across.ensures.level c.in-Ok-across-2.ensures.ok c.in-Ok-across-2.ensures.level).is in
     omega (arith, is, c.in-Err-glue_three.ensures.over e)
 
@@ -95,7 +113,7 @@ pub both-across-requires : goal.both-across-requires
 both-across-requires t c =
     let o = c.in-Some.seen in
     let less = smaller _ _ _ _ o.span.now c.in-Some.ensures.level in
-    (omega (arith, less.child, c.decreases), (c.requires.sound, (c.in-Some.ensures.child, c.requires.h)))
+    (omega (arith, less.child, c.decreases), (c.requires.sound, (c.in-Some.ensures.child, (c.requires.h, c.requires.rising))))
 
 pub both-returns-in-Err-clause-over : goal.both-returns-in-Err-clause-over
 both-returns-in-Err-clause-over t c e =
@@ -112,7 +130,7 @@ both-both-requires t c =
     let less = smaller _ _ _ _ o.span.now c.in-Some.ensures.level in
     let l1 = stays a _ _ c.requires.sound one o.left c.in-Some.ensures.left in
     let h1 = stays a _ _ c.requires.sound one c.args.h c.requires.h in
-    (omega (arith, less.left, l1.size_same, h1.size_same, c.decreases), (one.sound, (l1.lent, h1.lent)))
+    (omega (arith, less.left, l1.size_same, h1.size_same, c.decreases), (one.sound, (l1.lent, (h1.lent, rises_later _ _ _ h1 c.requires.rising))))
 
 pub both-returns-in-Err-both-clause-over : goal.both-returns-in-Err-both-clause-over
 both-returns-in-Err-both-clause-over t c e =
@@ -133,7 +151,7 @@ both-both-requires-2 t c =
     let less = smaller _ _ _ _ o.span.now c.in-Some.ensures.level in
     let r2 = stays_two a _ _ _ _ c.requires.sound one two o.right c.in-Some.ensures.right in
     let h2 = stays_two a _ _ _ _ c.requires.sound one two c.args.h c.requires.h in
-    (omega (arith, less.right, r2.size_same, h2.size_same, c.decreases), (two.sound, (r2.lent, h2.lent)))
+    (omega (arith, less.right, r2.size_same, h2.size_same, c.decreases), (two.sound, (r2.lent, (h2.lent, rises_later _ _ _ h2 c.requires.rising))))
 
 pub both-returns-in-Err-both-2-clause-over : goal.both-returns-in-Err-both-2-clause-over
 both-returns-in-Err-both-2-clause-over t c e =
