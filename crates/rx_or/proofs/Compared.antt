@@ -1,5 +1,5 @@
 -- What the order of two ends says.
-use Rattle.std.proofs.Common.{◌≡◌, true, false, refl, ap, sym, subst}
+use Rattle.std.proofs.Common.{◌≡◌, ◌↔◌, IsTrue, true, false, refl, ap, sym, subst}
 use Rattle.std.specs.declared.cmp.Ordering.{Ordering}
 use Rattle.std.specs.declared.cmp.Ordering.TheVariants.{Less, Equal, Greater}
 use Rattle.rx_value.specs.declared.order.End.{End}
@@ -43,3 +43,14 @@ compared a b Greater e = record {
   less_apart = λ is. absurd (cc is);
   greater_apart = λ is same. below-irrefl b (subst (λ (x : End). IsBelow b x) (sym same) (greater_above a b (sym e)));
 }
+
+-- a test of two ends decides whether the first is below the second
+pub is_below : (a b x y : End) (o : Ordering) → a ≡ x → b ≡ y → o ≡ end_cmp a b → o ≡ Less → (IsTrue true ↔ IsBelow x y)
+is_below a b x y o first second is less =
+    let low : IsBelow x y = subst (λ (e : End). IsBelow e y) first (subst (λ (e : End). IsBelow a e) second ((compared a b o is).less less)) in
+    ((λ yes. low), (λ below. refl))
+
+pub isnt_below : (a b x y : End) (o : Ordering) → a ≡ x → b ≡ y → o ≡ end_cmp a b → (o ≡ Less → ⊥) → (IsTrue false ↔ IsBelow x y)
+isnt_below a b x y o first second is not =
+    let high : IsAtMost y x = subst (λ (e : End). IsAtMost y e) first (subst (λ (e : End). IsAtMost e a) second ((compared a b o is).not_less not)) in
+    ((λ no. absurd (cc no)), (λ below. absurd (cc (high, below))))

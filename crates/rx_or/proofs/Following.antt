@@ -2,15 +2,17 @@
 use Rattle.std.proofs.Common.{◌≡◌, ◌+◌, ◌≤◌, ◌<◌, ℕ, Bool, cond, List, [], ◌∷◌, Option, Some, None, arith, refl, ap, ap₂, sym, ◌∙◌, subst}
 use Rattle.slab.specs.Slab.{Slab}
 use Rattle.std.specs.declared.cmp.Ordering.{Ordering}
-use Rattle.std.specs.declared.cmp.Ordering.TheVariants.{Greater}
+use Rattle.std.specs.declared.cmp.Ordering.TheVariants.{Less}
+use Rattle.rx_value.specs.declared.order.End.{End}
 use Rattle.rx_value.specs.declared.order.Span.{Span}
 use Rattle.rx_value.specs.Order.{end_cmp}
+use Rattle.rx_value.proofs.Ends.{below-from_less}
 use Rattle.rx_value.specs.Spans.{IsAtMost, IsBelow, later, earlier}
 use Rattle.rx_tree.specs.Tree.{Level}
 use Rattle.rx_tree.specs.Tree.Level.{end, item}
 use Rattle.rx_tree.specs.Join.{join_level, length_of}
 use Rattle.rx_tree.specs.Canonical.{ArePlaced}
-use Rattle.rx_tree.specs.Weld.{weld}
+use Rattle.rx_tree.specs.Weld.{glue}
 use Rattle.rx_tree.specs.Union.{lay, lay_all, is_all, between as piece_between}
 use Rattle.rx_level.specs.declared.nodes.Node.{Node}
 use Rattle.rx_level.specs.declared.trees.Item.{Item}
@@ -18,9 +20,12 @@ use Rattle.rx_level.specs.Store.{IsSound, leads, held_of}
 use Rattle.rx_level.specs.Step.{Owns, Step, level_of, between}
 use Rattle.rx_tree.proofs.Joining.{length-join}
 use Rattle.rx_level.proofs.Turning.{kept_root}
-use Rattle.rx_or.specs.Below.{union_below, past, ArePlacedBelow}
-use Rattle.rx_or.proofs.Laid.{lay_join, placed_left, placed_item, placed_right, placed_rest, placed_below, lay_placed, lay_all_placed, lay_behind, lay_before, lay_over, piece_alone, past_greater, below_some, parts_order, alone_span}
+use Rattle.rx_or.specs.Below.{union_below, ahead, past, in_parts, ArePlacedBelow}
+use Rattle.rx_or.proofs.Laid.{lay_join, placed_left, placed_from, placed_item, placed_right, placed_below, lay_placed, lay_all_placed, below_some, parts_order, alone_span}
+use Rattle.rx_or.specs.Cover.{AreInOrder}
 use Rattle.rx_or.proofs.Aside.{lay_left, lay_right}
+use Rattle.rx_or.proofs.Across.{lay_across, ahead_placed, front_alone}
+use Rattle.rx_or.proofs.Welded.{between_same}
 
 -- a level is taken apart, and another is held beside it
 pub record IsTaken (a b : Slab Node) (parts : List Bool) (g h left right : Option ℕ) (top : Item) : Type 0 where
@@ -116,91 +121,31 @@ laid_level a b d e f parts g h left right after laid whole top t k o l1 l2 l3 =
     ∙ sym (lay_join F (level_of b left) top.span (level_of b top.child) (level_of b right) (level_of a h))
     ∙ ap (λ x. lay_all F x (level_of a h)) (sym t.level)
 
--- the first item is taken off a level, and an item is held beside it
-pub record IsFirst (a b : Slab Node) (parts : List Bool) (i first : Item) (root rest : Option ℕ) : Type 0 where
-  pub held : (m : ℕ) → leads m i.child + leads m first.child + leads m rest ≤ held_of b m
-  pub sound : IsSound b []
-  pub child : level_of b i.child ≡ level_of a i.child
-  pub level : level_of a root ≡ item first.span (level_of b first.child) (level_of b rest)
-  pub alone : ArePlaced parts (item i.span (level_of b i.child) end)
-  pub placed : ArePlaced parts (item first.span (level_of b first.child) (level_of b rest))
-  pub longer : length_of (level_of a root) ≡ 1 + length_of (level_of b rest)
-
-pub first_taken : (a b : Slab Node) (parts : List Bool) (i first : Item) (root rest : Option ℕ) (key : ℕ) → root ≡ Some key → Owns a (i.child ∷ root ∷ []) → Step a b (Some key ∷ []) (first.child ∷ rest ∷ [])
-    → level_of a (Some key) ≡ item first.span (level_of b first.child) (level_of b rest) → ArePlaced parts (item i.span (level_of a i.child) end) → ArePlaced parts (level_of a root) → IsFirst a b parts i first root rest
-first_taken a b parts i first root rest key is owns step level alone placed =
-    let key_leads : (m : ℕ) → leads m root ≡ leads m (Some key) = (λ m. ap (leads m) is) in
-    let all : level_of a root ≡ item first.span (level_of b first.child) (level_of b rest) = ap (level_of a) is ∙ level in
-    let child = kept_root a b _ _ step i.child (λ m. omega (arith, owns.owned m, key_leads m)) in
-    record {
-      held = λ m. omega (arith, step.held m, owns.owned m, key_leads m);
-      sound = step.sound;
-      child = child.level;
-      level = all;
-      alone = subst (λ (x : Level). ArePlaced parts (item i.span x end)) (sym child.level) alone;
-      placed = subst (ArePlaced parts) all placed;
-      longer = ap length_of all;
-    }
-
-pub first_rest : (a b : Slab Node) (parts : List Bool) (i first : Item) (root rest : Option ℕ) → IsFirst a b parts i first root rest → ArePlaced parts (level_of b rest)
-first_rest a b parts i first root rest t = placed_rest parts first.span (level_of b first.child) (level_of b rest) t.placed
-
--- the item goes behind the first
-pub behind_level : (a b d f : Slab Node) (parts : List Bool) (i first : Item) (root rest laid whole : Option ℕ) → IsFirst a b parts i first root rest → Step b d (i.child ∷ rest ∷ []) (laid ∷ []) → IsAtMost first.span.hi i.span.lo
-    → level_of d laid ≡ lay (union_below parts) i.span (level_of b i.child) (level_of b rest)
-    → level_of f whole ≡ weld first.span (level_of d first.child) (level_of d laid)
-    → level_of f whole ≡ lay (union_below parts) i.span (level_of a i.child) (level_of a root)
-behind_level a b d f parts i first root rest laid whole t step low l1 l2 =
-    let F = union_below parts in
-    let below = kept_root b d _ _ step first.child (λ m. omega (arith, t.held m)) in
-    l2
-    ∙ ap₂ (weld first.span) below.level l1
-    ∙ lay_behind F i.span (level_of b i.child) first.span (level_of b first.child) (level_of b rest) low
-    ∙ ap₂ (lay F i.span) t.child (sym t.level)
-
--- or before it
-pub before_level : (a b f : Slab Node) (parts : List Bool) (i first : Item) (root rest whole : Option ℕ) → IsFirst a b parts i first root rest → IsBelow i.span.lo first.span.hi × IsAtMost i.span.hi first.span.lo
-    → level_of f whole ≡ weld i.span (level_of b i.child) (item first.span (level_of b first.child) (level_of b rest))
-    → level_of f whole ≡ lay (union_below parts) i.span (level_of a i.child) (level_of a root)
-before_level a b f parts i first root rest whole t place l1 =
-    l1
-    ∙ lay_before (union_below parts) i.span (level_of b i.child) first.span (level_of b first.child) (level_of b rest) place
-    ∙ ap₂ (lay (union_below parts) i.span) t.child (sym t.level)
-
--- or over it
-pub over_level : (a b f : Slab Node) (parts : List Bool) (i first : Item) (root rest whole : Option ℕ) → IsFirst a b parts i first root rest
-    → level_of f whole ≡ lay (union_below parts) i.span (level_of b i.child) (item first.span (level_of b first.child) (level_of b rest))
-    → level_of f whole ≡ lay (union_below parts) i.span (level_of a i.child) (level_of a root)
-over_level a b f parts i first root rest whole t l1 = l1 ∙ ap₂ (lay (union_below parts) i.span) t.child (sym t.level)
-
 -- an item laid over a level without items
 pub alone_level : (a : Slab Node) (f : Level → Level → Level) (s : Span) (c l : Level) (root : Option ℕ) → root ≡ None → l ≡ item s c (level_of a root) → l ≡ lay f s c (level_of a root)
 alone_level a f s c l root is level = level ∙ subst (λ (r : Option ℕ). item s c (level_of a r) ≡ lay f s c (level_of a r)) (sym is) refl
 
--- what two items that overlap become
-pub overlay_level : (a b d e : Slab Node) (parts : List Bool) (i under : Item) (rest behind both whole : Option ℕ) → Owns a (i.child ∷ under.child ∷ rest ∷ []) → Step a b (rest ∷ []) (behind ∷ []) → Step b d [] (both ∷ [])
-    → IsBelow i.span.lo under.span.hi × IsBelow under.span.lo i.span.hi
+-- what an item and one that it reaches become, from where that one begins on
+pub onto_level : (a b d e : Slab Node) (parts : List Bool) (i under : Item) (rest behind both whole : Option ℕ) → Owns a (i.child ∷ under.child ∷ rest ∷ []) → Step a b (rest ∷ []) (behind ∷ []) → Step b d [] (both ∷ [])
     → level_of b behind ≡ past (union_below parts) i.span (level_of a i.child) under.span.hi (level_of a rest)
-    → level_of d both ≡ union_below parts (level_of b i.child) (level_of b under.child)
-    → level_of e whole ≡ piece_between i.span.lo under.span.lo (level_of d i.child) (piece_between under.span.lo i.span.lo (level_of d under.child) (piece_between (later i.span.lo under.span.lo) (earlier i.span.hi under.span.hi) (level_of d both) (piece_between i.span.hi under.span.hi (level_of d under.child) (level_of d behind))))
-    → level_of e whole ≡ lay (union_below parts) i.span (level_of a i.child) (item under.span (level_of a under.child) (level_of a rest))
-overlay_level a b d e parts i under rest behind both whole owns one two over l1 l2 l3 =
+    → (IsBelow (later i.span.lo under.span.lo) (earlier i.span.hi under.span.hi) → level_of d both ≡ union_below parts (level_of b i.child) (level_of b under.child))
+    → level_of e whole ≡ in_parts i.span under.span (level_of d under.child) (level_of d both) (level_of d behind)
+    → level_of e whole ≡ in_parts i.span under.span (level_of a under.child) (union_below parts (level_of a i.child) (level_of a under.child)) (past (union_below parts) i.span (level_of a i.child) under.span.hi (level_of a rest))
+onto_level a b d e parts i under rest behind both whole owns one two l1 l2 l3 =
     let F = union_below parts in
     let s = i.span in
     let t = under.span in
     let c1 = kept_root a b _ _ one i.child (λ m. omega (arith, owns.owned m)) in
     let u1 = kept_root a b _ _ one under.child (λ m. omega (arith, owns.owned m)) in
-    let c2 = kept_root b d _ _ two i.child (λ m. omega (arith, owns.owned m, one.held m)) in
     let u2 = kept_root b d _ _ two under.child (λ m. omega (arith, owns.owned m, one.held m)) in
     let r2 = kept_root b d _ _ two behind (λ m. omega (arith, owns.owned m, one.held m)) in
-    let C : level_of d i.child ≡ level_of a i.child = c2.level ∙ c1.level in
     let U : level_of d under.child ≡ level_of a under.child = u2.level ∙ u1.level in
-    let B : level_of d both ≡ F (level_of a i.child) (level_of a under.child) = l2 ∙ ap₂ F c1.level u1.level in
     let R : level_of d behind ≡ past F s (level_of a i.child) t.hi (level_of a rest) = r2.level ∙ l1 in
-    let last : piece_between s.hi t.hi (level_of d under.child) (level_of d behind) ≡ piece_between s.hi t.hi (level_of a under.child) (past F s (level_of a i.child) t.hi (level_of a rest)) = ap₂ (piece_between s.hi t.hi) U R in
     l3
-    ∙ ap₂ (piece_between s.lo t.lo) C (ap₂ (piece_between t.lo s.lo) U (ap₂ (piece_between (later s.lo t.lo) (earlier s.hi t.hi)) B last))
-    ∙ lay_over F s (level_of a i.child) t (level_of a under.child) (level_of a rest) over
+    ∙ ap₂ (λ x y. in_parts s t x (level_of d both) y) U R
+    ∙ ap (piece_between t.lo s.lo (level_of a under.child))
+    (between_same (later s.lo t.lo) (earlier s.hi t.hi) (level_of d both) (F (level_of a i.child) (level_of a under.child)) _
+    (λ low. l2 low ∙ ap₂ F c1.level u1.level))
 
 -- what the children are after the items behind were laid
 pub record IsKeptBelow (b : Slab Node) (parts : List Bool) (i under : Item) : Type 0 where
@@ -216,44 +161,6 @@ kept_below a b parts i under rest behind owns one alone placed =
       first = subst (ArePlacedBelow parts) (sym c1.level) (placed_below parts i.span (level_of a i.child) end alone);
       second = subst (ArePlacedBelow parts) (sym u1.level) (placed_below parts under.span (level_of a under.child) (level_of a rest) placed);
     }
-
--- a piece of an item, with a handle more of its child
-pub record IsPiece (a b : Slab Node) (parts : List Bool) (i under piece : Item) (rest : Option ℕ) : Type 0 where
-  pub held : (m : ℕ) → leads m i.child + leads m under.child + leads m rest + leads m piece.child ≤ held_of b m
-  pub sound : IsSound b []
-  pub alone : ArePlaced parts (item piece.span (level_of b piece.child) end)
-  pub placed : ArePlaced parts (level_of b rest)
-  pub span : piece.span ≡ record { lo = under.span.hi; hi = i.span.hi }
-  pub child : level_of b piece.child ≡ level_of a i.child
-  pub kept : level_of b rest ≡ level_of a rest
-
-pub piece_made : (a b : Slab Node) (parts : List Bool) (i under piece : Item) (rest : Option ℕ) (o : Ordering) → Owns a (i.child ∷ under.child ∷ rest ∷ []) → Step a b [] (piece.child ∷ []) → piece.child ≡ i.child
-    → piece.span ≡ record { lo = under.span.hi; hi = i.span.hi } → o ≡ end_cmp i.span.hi under.span.hi → o ≡ Greater
-    → ArePlaced parts (item i.span (level_of a i.child) end) → ArePlaced parts (item under.span (level_of a under.child) (level_of a rest)) → IsPiece a b parts i under piece rest
-piece_made a b parts i under piece rest o owns step is_child is_span compared greater alone placed =
-    let c = kept_root a b _ _ step i.child (λ m. omega (arith, owns.owned m)) in
-    let r = kept_root a b _ _ step rest (λ m. omega (arith, owns.owned m)) in
-    let same : level_of b piece.child ≡ level_of a i.child = ap (level_of b) is_child ∙ c.level in
-    let part : ArePlaced parts (item (record { lo = under.span.hi; hi = i.span.hi }) (level_of a i.child) end) =
-    piece_alone parts i.span (level_of a i.child) under.span (level_of a under.child) (level_of a rest) (sym compared ∙ greater) alone placed in
-    record {
-      held = λ m. omega (arith, step.held m, owns.owned m);
-      sound = step.sound;
-      alone = subst (λ (s : Span). ArePlaced parts (item s (level_of b piece.child) end)) (sym is_span) (subst (λ (x : Level). ArePlaced parts (item (record { lo = under.span.hi; hi = i.span.hi }) x end)) (sym same) part);
-      placed = subst (ArePlaced parts) (sym r.level) (placed_rest parts under.span (level_of a under.child) (level_of a rest) placed);
-      span = is_span;
-      child = same;
-      kept = r.level;
-    }
-
-pub piece_level : (a b d : Slab Node) (parts : List Bool) (i under piece : Item) (rest whole : Option ℕ) (o : Ordering) → IsPiece a b parts i under piece rest → o ≡ end_cmp i.span.hi under.span.hi → o ≡ Greater
-    → level_of d whole ≡ lay (union_below parts) piece.span (level_of b piece.child) (level_of b rest)
-    → level_of d whole ≡ past (union_below parts) i.span (level_of a i.child) under.span.hi (level_of a rest)
-piece_level a b d parts i under piece rest whole o p compared greater l1 =
-    l1
-    ∙ ap (λ s. lay (union_below parts) s (level_of b piece.child) (level_of b rest)) p.span
-    ∙ ap₂ (lay (union_below parts) (record { lo = under.span.hi; hi = i.span.hi })) p.child p.kept
-    ∙ past_greater (union_below parts) i.span (level_of a i.child) under.span.hi (level_of a rest) (sym compared ∙ greater)
 
 -- two children are held once more
 pub record AreHeld (a d : Slab Node) (parts below : List Bool) (c u : Option ℕ) : Type 0 where
@@ -305,8 +212,7 @@ pub record IsAside (a b : Slab Node) (parts : List Bool) (i top : Item) (root le
   pub level : level_of a root ≡ between b left top right
   pub alone : ArePlaced parts (item i.span (level_of b i.child) end)
   pub placed : ArePlaced parts (between b left top right)
-  pub shorter_left : length_of (level_of b left) < length_of (level_of a root)
-  pub shorter_right : length_of (level_of b right) < length_of (level_of a root)
+  pub long : length_of (level_of a root) ≡ length_of (level_of b left) + (1 + length_of (level_of b right))
 
 pub taken_aside : (a b : Slab Node) (parts : List Bool) (i top : Item) (root left right : Option ℕ) (key : ℕ) → root ≡ Some key → Owns a (i.child ∷ root ∷ []) → Step a b (Some key ∷ []) (top.child ∷ left ∷ right ∷ [])
     → level_of a (Some key) ≡ between b left top right → ArePlaced parts (item i.span (level_of a i.child) end) → ArePlaced parts (level_of a root) → IsAside a b parts i top root left right
@@ -323,8 +229,7 @@ taken_aside a b parts i top root left right key is owns step level alone placed 
       level = all;
       alone = subst (λ (x : Level). ArePlaced parts (item i.span x end)) (sym child.level) alone;
       placed = subst (ArePlaced parts) all placed;
-      shorter_left = omega (arith, long);
-      shorter_right = omega (arith, long);
+      long = long;
     }
 
 pub aside_left : (a b : Slab Node) (parts : List Bool) (i top : Item) (root left right : Option ℕ) → IsAside a b parts i top root left right → ArePlaced parts (level_of b left)
@@ -363,23 +268,84 @@ left_level a b d f parts i top root left right front whole t step low l1 l2 =
     ∙ sym (lay_left F (level_of b i.child) (level_of b left) top.span (level_of b top.child) (level_of b right) i.span (parts_order parts (between b left top right) t.placed) (alone_span parts i.span (level_of b i.child) t.alone) low)
     ∙ ap₂ (lay F i.span) t.child (sym t.level)
 
--- or the level is put together again
-pub record IsAgain (a d : Slab Node) (parts : List Bool) (i : Item) (root same : Option ℕ) : Type 0 where
-  pub held : (m : ℕ) → leads m i.child + leads m same ≤ held_of d m
-  pub sound : IsSound d []
-  pub child : level_of d i.child ≡ level_of a i.child
-  pub level : level_of d same ≡ level_of a root
-  pub alone : ArePlaced parts (item i.span (level_of d i.child) end)
-  pub placed : ArePlaced parts (level_of d same)
+-- a part of an item, with a handle more of its child
+pub record IsPiece (a b : Slab Node) (parts : List Bool) (i piece : Item) (rest : Option ℕ) : Type 0 where
+  pub held : (m : ℕ) → leads m i.child + leads m rest + leads m piece.child ≤ held_of b m
+  pub sound : IsSound b []
+  pub alone : ArePlaced parts (item piece.span (level_of b piece.child) end)
+  pub placed : ArePlaced parts (level_of b rest)
+  pub kept : level_of b rest ≡ level_of a rest
 
-pub again : (a b d : Slab Node) (parts : List Bool) (i top : Item) (root left right same : Option ℕ) → IsAside a b parts i top root left right → Step b d (top.child ∷ left ∷ right ∷ []) (same ∷ []) → level_of d same ≡ between b left top right → IsAgain a d parts i root same
-again a b d parts i top root left right same t step level =
-    let c = kept_root b d _ _ step i.child (λ m. omega (arith, t.held m)) in
+pub piece_made : (a b : Slab Node) (parts : List Bool) (i piece : Item) (e : End) (rest : Option ℕ) (o : Ordering) → Owns a (i.child ∷ rest ∷ []) → Step a b [] (piece.child ∷ []) → piece.child ≡ i.child
+    → piece.span ≡ record { lo = i.span.lo; hi = e } → o ≡ end_cmp i.span.lo e → o ≡ Less → ArePlaced parts (item i.span (level_of a i.child) end) → ArePlaced parts (level_of a rest) → IsPiece a b parts i piece rest
+piece_made a b parts i piece e rest o owns step is_child is_span compared less alone placed =
+    let c = kept_root a b _ _ step i.child (λ m. omega (arith, owns.owned m)) in
+    let r = kept_root a b _ _ step rest (λ m. omega (arith, owns.owned m)) in
+    let same : level_of b piece.child ≡ level_of a i.child = ap (level_of b) is_child ∙ c.level in
+    let part : ArePlaced parts (item (record { lo = i.span.lo; hi = e }) (level_of a i.child) end) = front_alone parts i.span (level_of a i.child) e (below-from_less i.span.lo e (sym compared ∙ less)) alone in
     record {
-      held = λ m. omega (arith, step.held m, t.held m);
+      held = λ m. omega (arith, step.held m, owns.owned m);
       sound = step.sound;
-      child = c.level ∙ t.child;
-      level = level ∙ sym t.level;
-      alone = subst (λ (x : Level). ArePlaced parts (item i.span x end)) (sym c.level) t.alone;
-      placed = subst (ArePlaced parts) (sym level) t.placed;
+      alone = subst (λ (s : Span). ArePlaced parts (item s (level_of b piece.child) end)) (sym is_span) (subst (λ (x : Level). ArePlaced parts (item (record { lo = i.span.lo; hi = e }) x end)) (sym same) part);
+      placed = subst (ArePlaced parts) (sym r.level) placed;
+      kept = r.level;
     }
+
+-- what the item has before the topmost one is laid over the items to the left of that
+pub record IsFronted (a b : Slab Node) (parts : List Bool) (i top : Item) (right front : Option ℕ) : Type 0 where
+  pub held : (m : ℕ) → leads m i.child + leads m top.child + leads m right + leads m front ≤ held_of b m
+  pub sound : IsSound b []
+  pub child : level_of b i.child ≡ level_of a i.child
+  pub below : level_of b top.child ≡ level_of a top.child
+  pub behind : level_of b right ≡ level_of a right
+  pub order : AreInOrder (level_of b front)
+  pub alone : ArePlaced parts (item i.span (level_of b i.child) end)
+  pub placed : ArePlaced parts (item top.span (level_of b top.child) (level_of b right))
+
+pub fronted : (a b : Slab Node) (parts : List Bool) (i top : Item) (left right front : Option ℕ) → Owns a (i.child ∷ top.child ∷ left ∷ right ∷ []) → Step a b (left ∷ []) (front ∷ [])
+    → ArePlaced parts (item i.span (level_of a i.child) end) → ArePlaced parts (between a left top right)
+    → level_of b front ≡ ahead (union_below parts) i.span (level_of a i.child) top.span.lo (level_of a left) → IsFronted a b parts i top right front
+fronted a b parts i top left right front owns step alone placed level =
+    let c = kept_root a b _ _ step i.child (λ m. omega (arith, owns.owned m)) in
+    let u = kept_root a b _ _ step top.child (λ m. omega (arith, owns.owned m)) in
+    let r = kept_root a b _ _ step right (λ m. omega (arith, owns.owned m)) in
+    let on = placed_from parts (level_of a left) top.span (level_of a top.child) (level_of a right) placed in
+    let before = placed_left parts (level_of a left) (item top.span (level_of a top.child) (level_of a right)) placed in
+    record {
+      held = λ m. omega (arith, step.held m, owns.owned m);
+      sound = step.sound;
+      child = c.level;
+      below = u.level;
+      behind = r.level;
+      order = parts_order parts (level_of b front) (subst (ArePlaced parts) (sym level) (ahead_placed parts i.span (level_of a i.child) top.span.lo (level_of a left) alone before));
+      alone = subst (λ (x : Level). ArePlaced parts (item i.span x end)) (sym c.level) alone;
+      placed = subst (λ (x : Level). ArePlaced parts (item top.span x (level_of b right))) (sym u.level) (subst (λ (x : Level). ArePlaced parts (item top.span (level_of a top.child) x)) (sym r.level) on);
+    }
+
+-- and stays in order while the rest of the item is laid
+pub front_order : (a b d : Slab Node) (parts : List Bool) (i top : Item) (right front : Option ℕ) (g : List (Option ℕ)) → IsFronted a b parts i top right front → Step b d (i.child ∷ top.child ∷ right ∷ []) g → AreInOrder (level_of d front)
+front_order a b d parts i top right front g x step =
+    let f = kept_root b d _ _ step front (λ m. omega (arith, x.held m)) in
+    subst AreInOrder (sym f.level) x.order
+
+-- both are glued together
+pub across_level : (a b d e : Slab Node) (parts : List Bool) (i top : Item) (left right front back whole : Option ℕ) → IsFronted a b parts i top right front → Step b d (i.child ∷ top.child ∷ right ∷ []) (back ∷ [])
+    → ArePlaced parts (item i.span (level_of a i.child) end) → ArePlaced parts (between a left top right) → IsAtMost i.span.lo top.span.hi × IsAtMost top.span.lo i.span.hi
+    → level_of b front ≡ ahead (union_below parts) i.span (level_of a i.child) top.span.lo (level_of a left)
+    → level_of d back ≡ in_parts i.span top.span (level_of b top.child) (union_below parts (level_of b i.child) (level_of b top.child)) (past (union_below parts) i.span (level_of b i.child) top.span.hi (level_of b right))
+    → level_of e whole ≡ glue (level_of d front) (level_of d back)
+    → level_of e whole ≡ lay (union_below parts) i.span (level_of a i.child) (between a left top right)
+across_level a b d e parts i top left right front back whole x step alone placed reaches l1 l2 l3 =
+    let F = union_below parts in
+    let f = kept_root b d _ _ step front (λ m. omega (arith, x.held m)) in
+    let is : level_of d back ≡ in_parts i.span top.span (level_of a top.child) (F (level_of a i.child) (level_of a top.child)) (past F i.span (level_of a i.child) top.span.hi (level_of a right)) =
+    l2 ∙ (rw (x.child, x.below, x.behind) refl) in
+    l3
+    ∙ ap₂ glue (f.level ∙ l1) is
+    ∙ lay_across parts i.span (level_of a i.child) (level_of a left) top.span (level_of a top.child) (level_of a right) alone placed reaches.0 reaches.1
+
+-- or over it
+pub over_level : (a b f : Slab Node) (parts : List Bool) (i top : Item) (root left right whole : Option ℕ) → IsAside a b parts i top root left right
+    → level_of f whole ≡ lay (union_below parts) i.span (level_of b i.child) (between b left top right)
+    → level_of f whole ≡ lay (union_below parts) i.span (level_of a i.child) (level_of a root)
+over_level a b f parts i top root left right whole t l1 = l1 ∙ ap₂ (lay (union_below parts) i.span) t.child (sym t.level)

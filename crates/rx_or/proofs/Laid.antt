@@ -1,23 +1,17 @@
 -- Items of a level laid over another, by the parts from that of the level on.
 use Rattle.std.proofs.Common.{◌≡◌, ◌&&◌, ◌-◌, ◌≤◌, Bool, true, false, cond, List, [], ◌∷◌, length, get_or, take, drop, length-drop, refl, ap, ap₂, sym, ◌∙◌, arith}
 use Rattle.std.proofs.lemmas.List.{take_all}
-use Rattle.std.specs.declared.cmp.Ordering.{Ordering}
-use Rattle.std.specs.declared.cmp.Ordering.TheVariants.{Less, Equal, Greater}
-use Rattle.rx_value.specs.declared.order.End.{End}
 use Rattle.rx_value.specs.declared.order.Span.{Span}
-use Rattle.rx_value.specs.Order.{end_cmp, is_at_most}
-use Rattle.rx_value.specs.Spans.{IsAtMost, IsBelow, IsSpan}
-use Rattle.rx_value.proofs.Ends.{at_most-trans, below-at_most}
-use Rattle.rx_tree.specs.Tree.{Level, first_of, is_end, is_whole}
+use Rattle.rx_value.specs.Spans.{IsSpan}
+use Rattle.rx_tree.specs.Tree.{Level, is_end, is_whole}
 use Rattle.rx_tree.specs.Tree.Level.{end, item}
 use Rattle.rx_tree.specs.Join.{join_level, length_of}
 use Rattle.rx_tree.specs.Canonical.{ArePlaced}
-use Rattle.rx_tree.specs.Weld.{weld}
-use Rattle.rx_tree.specs.Union.{overlaid, lay, lay_all, either_child, is_all}
+use Rattle.rx_tree.specs.Union.{lay, lay_all, either_child, is_all}
 use Rattle.rx_tree.proofs.Layers.{IsNew, lay_law, lay_all_law}
 use Rattle.rx_tree.proofs.Either.{either_law}
 use Rattle.rx_or.specs.Cover.{covered, AreInOrder}
-use Rattle.rx_or.specs.Below.{union_below, past, ArePlacedBelow, unless_all, is_bare, covered_by}
+use Rattle.rx_or.specs.Below.{union_below, ArePlacedBelow, unless_all, is_bare, covered_by}
 use Rattle.rx_or.proofs.Order.{left_begins, left_differs}
 use Rattle.rx_or.proofs.Covered.{placed_order, covered_lay, lay_all_turn}
 
@@ -33,7 +27,7 @@ placed_left (n ∷ ns) end m placed = tt
 placed_left (n ∷ ns) (item u c l) m placed =
     (record { span = placed.0.span; from = placed.0.from; rises = left_begins u.hi l m placed.0.rises; differs = left_differs u c l m placed.0.differs }, placed.1, placed.2, placed_left (n ∷ ns) l m placed.3)
 
-placed_from : (parts : List Bool) (l : Level) (i : Span) (d r : Level) → ArePlaced parts (join_level l (item i d r)) → ArePlaced parts (item i d r)
+pub placed_from : (parts : List Bool) (l : Level) (i : Span) (d r : Level) → ArePlaced parts (join_level l (item i d r)) → ArePlaced parts (item i d r)
 placed_from parts end i d r placed = placed
 placed_from [] (item u c l) i d r placed = absurd placed
 placed_from (n ∷ ns) (item u c l) i d r placed = placed_from (n ∷ ns) l i d r placed.3
@@ -80,50 +74,6 @@ pub parts_order : (parts : List Bool) (l : Level) → ArePlaced parts l → AreI
 parts_order [] end placed = tt
 parts_order [] (item s c rest) placed = absurd placed
 parts_order (n ∷ ns) l placed = placed_order n ns l placed
-
--- the first case of laying: behind the first item
-pub lay_behind : (f : Level → Level → Level) (s : Span) (c : Level) (t : Span) (d rest : Level) → IsAtMost t.hi s.lo → weld t d (lay f s c rest) ≡ lay f s c (item t d rest)
-lay_behind f s c t d rest low = rw low refl
-
--- the second: before it
-pub lay_before : (f : Level → Level → Level) (s : Span) (c : Level) (t : Span) (d rest : Level) → IsBelow s.lo t.hi × IsAtMost s.hi t.lo → weld s c (item t d rest) ≡ lay f s c (item t d rest)
-lay_before f s c t d rest h =
-    let first : is_at_most t.hi s.lo ≡ false = h.0 in
-    let second : is_at_most s.hi t.lo ≡ true = h.1 in
-    rw (first, second) refl
-
--- the third: over it
-pub lay_over : (f : Level → Level → Level) (s : Span) (c : Level) (t : Span) (d rest : Level) → IsBelow s.lo t.hi × IsBelow t.lo s.hi → overlaid f s c t d (past f s c t.hi rest) ≡ lay f s c (item t d rest)
-lay_over f s c t d rest h =
-    let first : is_at_most t.hi s.lo ≡ false = h.0 in
-    let second : is_at_most s.hi t.lo ≡ false = h.1 in
-    rw (first, second) refl
-
--- what an item has behind another is an item of its own
-pub piece_alone : (parts : List Bool) (s : Span) (c : Level) (t : Span) (d rest : Level) → end_cmp s.hi t.hi ≡ Greater → ArePlaced parts (item s c end) → ArePlaced parts (item t d rest) → ArePlaced parts (item (record { lo = t.hi; hi = s.hi }) c end)
-piece_alone [] s c t d rest e alone placed = absurd alone
-piece_alone (n ∷ ns) s c t d rest e alone placed = (
-  record {
-    span = ap (λ o. elim o [ Greater ↦ false | _ ↦ true ]) e;
-    from = at_most-trans (first_of n) t.lo t.hi placed.0.from (below-at_most t.lo t.hi placed.0.span);
-    rises = tt;
-    differs = tt;
-  },
-  alone.1,
-  alone.2,
-  tt,
-)
-
-pub past_greater : (f : Level → Level → Level) (s : Span) (c : Level) (e : End) (rest : Level) → end_cmp s.hi e ≡ Greater → lay f (record { lo = e; hi = s.hi }) c rest ≡ past f s c e rest
-past_greater f s c e rest is = ap (λ (o : Ordering). elim o [ Greater ↦ lay f (record { lo = e; hi = s.hi }) c rest | _ ↦ rest ]) (sym is)
-
-past_by : (f : Level → Level → Level) (s : Span) (c : Level) (e : End) (rest : Level) (o : Ordering) → (o ≡ Greater → ⊥) → rest ≡ elim o [ Greater ↦ lay f (record { lo = e; hi = s.hi }) c rest | _ ↦ rest ]
-past_by f s c e rest Less not = refl
-past_by f s c e rest Equal not = refl
-past_by f s c e rest Greater not = absurd (not refl)
-
-pub past_not : (f : Level → Level → Level) (s : Span) (c : Level) (e : End) (rest : Level) (o : Ordering) → o ≡ end_cmp s.hi e → (o ≡ Greater → ⊥) → rest ≡ past f s c e rest
-past_not f s c e rest o is not = past_by f s c e rest (end_cmp s.hi e) (λ g. not (is ∙ g))
 
 -- nothing goes on below fewer than two parts but all
 pub below_last : (parts below : List Bool) (n : Bool) (c d : Level) → parts ≡ n ∷ below → below ≡ [] → end ≡ union_below parts c d

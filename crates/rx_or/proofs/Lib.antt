@@ -6,5 +6,8 @@ pub mod Covered
 pub mod Welded
 pub mod Laid
 pub mod Aside
+pub mod Bools
+pub mod Across
+pub mod Seams
 pub mod Following
 pub mod Roots

@@ -6,7 +6,8 @@ use Rattle.slab.specs.Slab.{Slab}
 use Rattle.rx_value.specs.declared.order.End.{End}
 use Rattle.rx_value.specs.declared.order.Span.{Span}
 use Rattle.rx_value.specs.Order.{end_cmp}
-use Rattle.rx_value.specs.Spans.{later, earlier}
+use Rattle.rx_value.specs.Spans.{IsBelow, later, earlier}
+use Rattle.rx_value.proofs.Ends.{below-from_less}
 use Rattle.rx_tree.specs.Tree.{Level}
 use Rattle.rx_tree.specs.Tree.Level.{item}
 use Rattle.rx_tree.specs.Meet.{part_of, put_part}
@@ -20,6 +21,7 @@ use Rattle.rx_level.specs.Step.{Owns, Step, Lent, level_of, between}
 use Rattle.rx_level.proofs.Steps.{held_there}
 use Rattle.rx_level.proofs.Lending.{lent_held}
 use Rattle.rx_level.proofs.Turning.{kept_root}
+use Rattle.rx_or.specs.Below.{in_parts}
 
 -- a held link is lent
 pub owned_lent : (s : Slab Node) (all : List (Option ℕ)) (r : Option ℕ) → Owns s all → ((m : ℕ) → leads m r ≤ owed m all) → Lent s [] r
@@ -97,24 +99,27 @@ put_piece a b d lo hi child rest whole x o owns one is_child is_span compared le
     ∙ ap₂ (weld (record { lo = lo; hi = hi })) (ap (level_of b) is_child ∙ below.level) back.level
     ∙ sym (between_less lo hi (level_of a child) (level_of a rest) (sym compared ∙ less))
 
--- four pieces put before a level, one after the other
-pub four_pieces : (a b d e f : Slab Node) (child under both rest behind middle second first : Option ℕ) (s t : Span) (lo hi : End)
-    → Owns a (child ∷ under ∷ both ∷ rest ∷ []) → Step a b (rest ∷ []) (behind ∷ []) → Step b d (behind ∷ []) (middle ∷ []) → Step d e (middle ∷ []) (second ∷ [])
+-- what stands between two ends counts only where the first is below the second
+between_same_by : (lo hi : End) (c d rest : Level) (o : Ordering) → (o ≡ Less → c ≡ d) → put_part (part_of (elim o [ Less ↦ Some (record { lo = lo; hi = hi }) | _ ↦ None ]) (Some c)) rest ≡ put_part (part_of (elim o [ Less ↦ Some (record { lo = lo; hi = hi }) | _ ↦ None ]) (Some d)) rest
+between_same_by lo hi c d rest Less same = ap (λ x. weld (record { lo = lo; hi = hi }) x rest) (same refl)
+between_same_by lo hi c d rest Equal same = refl
+between_same_by lo hi c d rest Greater same = refl
+
+pub between_same : (lo hi : End) (c d rest : Level) → (IsBelow lo hi → c ≡ d) → piece_between lo hi c rest ≡ piece_between lo hi d rest
+between_same lo hi c d rest same = between_same_by lo hi c d rest (end_cmp lo hi) (λ less. same (below-from_less lo hi less))
+
+-- the parts of an item put before a level, one after the other
+pub three_parts : (a b d e : Slab Node) (under both rest behind middle whole : Option ℕ) (s t : Span) (lo hi : End)
+    → Owns a (under ∷ both ∷ rest ∷ []) → Step a b (rest ∷ []) (behind ∷ []) → Step b d (behind ∷ []) (middle ∷ [])
     → lo ≡ later s.lo t.lo → hi ≡ earlier s.hi t.hi
     → level_of b behind ≡ piece_between s.hi t.hi (level_of a under) (level_of a rest)
     → level_of d middle ≡ piece_between lo hi (level_of b both) (level_of b behind)
-    → level_of e second ≡ piece_between t.lo s.lo (level_of d under) (level_of d middle)
-    → level_of f first ≡ piece_between s.lo t.lo (level_of e child) (level_of e second)
-    → level_of f first ≡ piece_between s.lo t.lo (level_of a child) (piece_between t.lo s.lo (level_of a under) (piece_between (later s.lo t.lo) (earlier s.hi t.hi) (level_of a both) (piece_between s.hi t.hi (level_of a under) (level_of a rest))))
-four_pieces a b d e f child under both rest behind middle second first s t lo hi owns one two three is_lo is_hi l1 l2 l3 l4 =
-    let c1 = kept_root a b _ _ one child (λ m. omega (arith, owns.owned m)) in
+    → level_of e whole ≡ piece_between t.lo s.lo (level_of d under) (level_of d middle)
+    → level_of e whole ≡ in_parts s t (level_of a under) (level_of a both) (level_of a rest)
+three_parts a b d e under both rest behind middle whole s t lo hi owns one two is_lo is_hi l1 l2 l3 =
     let u1 = kept_root a b _ _ one under (λ m. omega (arith, owns.owned m)) in
     let b1 = kept_root a b _ _ one both (λ m. omega (arith, owns.owned m)) in
-    let c2 = kept_root b d _ _ two child (λ m. omega (arith, owns.owned m, one.held m)) in
     let u2 = kept_root b d _ _ two under (λ m. omega (arith, owns.owned m, one.held m)) in
-    let c3 = kept_root d e _ _ three child (λ m. omega (arith, owns.owned m, one.held m, two.held m)) in
     let middle_is : level_of d middle ≡ piece_between (later s.lo t.lo) (earlier s.hi t.hi) (level_of a both) (piece_between s.hi t.hi (level_of a under) (level_of a rest)) =
     l2 ∙ ap₂ (λ x y. piece_between x y (level_of b both) (level_of b behind)) is_lo is_hi ∙ ap₂ (piece_between (later s.lo t.lo) (earlier s.hi t.hi)) b1.level l1 in
-    let second_is : level_of e second ≡ piece_between t.lo s.lo (level_of a under) (piece_between (later s.lo t.lo) (earlier s.hi t.hi) (level_of a both) (piece_between s.hi t.hi (level_of a under) (level_of a rest))) =
-    l3 ∙ ap₂ (piece_between t.lo s.lo) (u2.level ∙ u1.level) middle_is in
-    l4 ∙ ap₂ (piece_between s.lo t.lo) (c3.level ∙ c2.level ∙ c1.level) second_is
+    l3 ∙ ap₂ (piece_between t.lo s.lo) (u2.level ∙ u1.level) middle_is

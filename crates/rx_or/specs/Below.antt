@@ -1,15 +1,16 @@
--- The union of children below a level, and what is left of an item behind another.
+-- The union of children below a level, and the parts of an item that another reaches.
 use Rattle.std.specs.Prelude.{◌&&◌, ℕ, Bool, false, cond, List, [], ◌∷◌}
-use Rattle.std.specs.declared.cmp.Ordering.TheVariants.{Greater}
+use Rattle.std.specs.declared.cmp.Ordering.TheVariants.{Less, Greater}
 use Rattle.rx_value.specs.declared.order.End.{End}
 use Rattle.rx_value.specs.declared.order.Span.{Span}
 use Rattle.rx_value.specs.Order.{end_cmp}
+use Rattle.rx_value.specs.Spans.{later, earlier}
 use Rattle.rx_tree.specs.Tree.{Level, Tree, is_end}
 use Rattle.rx_tree.specs.Tree.Level.{end, item}
 use Rattle.rx_tree.specs.Tree.Tree.{everything, nothing, items}
 use Rattle.rx_tree.specs.Join.{length_of}
 use Rattle.rx_tree.specs.Canonical.{ArePlaced}
-use Rattle.rx_tree.specs.Union.{lay, either_child, is_all}
+use Rattle.rx_tree.specs.Union.{between, lay, either_child, is_all}
 use Rattle.rx_or.specs.Cover.{covered}
 
 -- what goes on below either of two children of a level's items, by the parts from that of the level on
@@ -20,6 +21,14 @@ union_below (n ∷ ns) c d = either_child ns c d
 -- the items of a level with what an item has from an end on laid over them
 abbrev pub past : (Level → Level → Level) → Span → Level → End → Level → Level
 past f s c e rest = elim (end_cmp s.hi e) [ Greater ↦ lay f (record { lo = e; hi = s.hi }) c rest | _ ↦ rest ]
+
+-- the items of a level with what an item has before an end laid over them
+abbrev pub ahead : (Level → Level → Level) → Span → Level → End → Level → Level
+ahead f s c e rest = elim (end_cmp s.lo e) [ Less ↦ lay f (record { lo = s.lo; hi = e }) c rest | _ ↦ rest ]
+
+-- An item that a span reaches, in parts: what it has alone before the span, what both have, over a child, what it has alone behind the span, and the rest.
+abbrev pub in_parts : Span → Span → Level → Level → Level → Level
+in_parts s t d both rest = between t.lo s.lo d (between (later s.lo t.lo) (earlier s.hi t.hi) both (between s.hi t.hi d rest))
 
 -- the items of a child of a level's items are in their places
 abbrev pub ArePlacedBelow : List Bool → Level → Type 0

@@ -11,13 +11,14 @@ use rx_level::{Item, Levels, join};
 use rx_value::Span;
 use std::alloc::{AllocError, Global};
 
-/// A level over which a span without a child is laid: the span takes in the items that lie within it and
+/// A level of this part over which a span without a child is laid: the span takes in the items that lie within it and
 /// those without a child that it reaches, and cuts the others. Of a level of n items it makes at most 16
 /// new ones for each bit of n, and 16, whoever else holds the level. The handle is spent in every case.
 /// The error is want of memory.
 pub fn cover(
     levels: &mut Levels,
     alloc: Global,
+    part: u32,
     root: Option<usize>,
     span: Span,
 ) -> Result<Option<usize>, AllocError>
@@ -30,7 +31,7 @@ pub fn cover(
     ensures err { OnErr result (Step levels.old levels.new (root ∷ []) []) }
 {
     levels.sound();
-    let made = replace(levels, alloc, root, span);
+    let made = replace(levels, alloc, part, root, span);
     made
 }
 
@@ -38,6 +39,7 @@ pub fn cover(
 fn replace(
     levels: &mut Levels,
     alloc: Global,
+    part: u32,
     root: Option<usize>,
     span: Span,
 ) -> Result<Option<usize>, AllocError>
@@ -60,7 +62,12 @@ fn replace(
                     lo: front.edge,
                     hi: back.edge,
                 };
-                let whole = join(levels, front.rest, Item { span, child: None }, back.rest)?;
+                let item = Item {
+                    part,
+                    span,
+                    child: None,
+                };
+                let whole = join(levels, front.rest, item, back.rest)?;
                 Ok(whole)
             }
             Err(error) => {

@@ -98,14 +98,14 @@ fn shorten_before(
     ensures live { slab_len levels.new ≤ slab_len levels.old + 3 * tall_of levels.old left + 1 }
     ensures err { OnErr result (Step levels.old levels.new (left ∷ item.child ∷ []) []) }
 {
-    let Item { span, child } = item;
+    let Item { part, span, child } = item;
     let Ok(hi) = copy_end(alloc, &edge) else {
         levels.free(left);
         levels.free(child);
         return Err(AllocError);
     };
     let span = Span { lo: span.lo, hi };
-    let rest = join(levels, left, Item { span, child }, None)?;
+    let rest = join(levels, left, Item { part, span, child }, None)?;
     Ok(Cut { rest, edge })
 }
 
@@ -134,10 +134,8 @@ pub fn cut_before(
         Place::Apart => match cut_before(levels, alloc, top.right, edge) {
             Ok(cut) => {
                 let rest = join(levels, top.left, top.item, cut.rest)?;
-                Ok(Cut {
-                    rest,
-                    edge: cut.edge,
-                })
+                let edge = cut.edge;
+                Ok(Cut { rest, edge })
             }
             Err(error) => {
                 levels.free(top.left);
@@ -185,14 +183,14 @@ fn shorten_after(
     ensures live { slab_len levels.new ≤ slab_len levels.old + 3 * tall_of levels.old right + 1 }
     ensures err { OnErr result (Step levels.old levels.new (right ∷ item.child ∷ []) []) }
 {
-    let Item { span, child } = item;
+    let Item { part, span, child } = item;
     let Ok(lo) = copy_end(alloc, &edge) else {
         levels.free(right);
         levels.free(child);
         return Err(AllocError);
     };
     let span = Span { lo, hi: span.hi };
-    let rest = join(levels, None, Item { span, child }, right)?;
+    let rest = join(levels, None, Item { part, span, child }, right)?;
     Ok(Cut { rest, edge })
 }
 
@@ -221,10 +219,8 @@ pub fn cut_after(
         Place::Apart => match cut_after(levels, alloc, top.left, edge) {
             Ok(cut) => {
                 let rest = join(levels, cut.rest, top.item, top.right)?;
-                Ok(Cut {
-                    rest,
-                    edge: cut.edge,
-                })
+                let edge = cut.edge;
+                Ok(Cut { rest, edge })
             }
             Err(error) => {
                 levels.free(top.right);

@@ -53,7 +53,9 @@ fn lay_bare(
     levels.free(top.left);
     levels.free(top.right);
     levels.free(top.item.child);
-    let whole = cover(levels, alloc, g, top.item.span)?;
+    let part = top.item.part;
+    let span = top.item.span;
+    let whole = cover(levels, alloc, part, g, span)?;
     Ok(whole)
 }
 

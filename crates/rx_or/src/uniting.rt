@@ -1,35 +1,24 @@
 //! The items of one level laid over another.
 
 ghost use Rattle.std.specs.Prelude.{◌≡◌, ◌<◌, Bool, List, [], ◌∷◌, Option, Some, None, IfOk, OnErr};
-ghost use Rattle.rx_value.specs.Spans.{IsAtMost, IsBelow};
+ghost use Rattle.rx_value.specs.Spans.{IsAtMost, IsBelow, later, earlier};
 ghost use Rattle.rx_tree.specs.Tree.{Level};
 ghost use Rattle.rx_tree.specs.Tree.Level.{item as one_item, end as no_items};
 ghost use Rattle.rx_tree.specs.Canonical.{ArePlaced};
 ghost use Rattle.rx_tree.specs.Union.{lay, lay_all};
-ghost use Rattle.rx_level.specs.Step.{Owns, Step, level_of};
-ghost use Rattle.rx_or.specs.declared.uniting.Stand.TheVariants.{Behind, Before, Over};
-ghost use Rattle.rx_or.specs.declared.uniting.Beside.TheVariants.{Left, Right};
-ghost use Rattle.rx_or.specs.Below.{union_below, past, ArePlacedBelow};
+ghost use Rattle.rx_level.specs.Step.{Owns, Step, level_of, between};
+ghost use Rattle.rx_or.specs.declared.uniting.Beside.TheVariants.{Left, Right, Neither};
+ghost use Rattle.rx_or.specs.Below.{union_below, ahead, past, in_parts, ArePlacedBelow};
 
 use crate::covering::cover;
-use crate::pieces::spread;
-use crate::welding::{meld, shared_item, weld_front};
+use crate::gluing::glue;
+use crate::pieces::{have_common, spread};
+use crate::welding::shared_item;
 use crate::wholes::is_all;
-use rx_level::{First, Item, Levels, join, take_first};
-use rx_value::{Span, compare_ends};
+use rx_level::{Item, Levels, Opened, join};
+use rx_value::{End, Span, compare_ends};
 use std::alloc::{AllocError, Global};
 use std::cmp::Ordering;
-
-// How a span stands to that of the first item of a level.
-#[derive(Clone, Copy)]
-enum Stand {
-    /// The first item ends before it.
-    Behind,
-    /// It ends before the first item.
-    Before,
-    /// The two overlap.
-    Over,
-}
 
 // On which side of an item a span lies that doesn't even touch it.
 #[derive(Clone, Copy)]
@@ -42,6 +31,7 @@ enum Beside {
 fn place_beside(span: &Span, item: &Span) -> Beside
     ensures right { result ≡ Right → IsBelow item.now.hi span.now.lo }
     ensures left { result ≡ Left → IsBelow span.now.hi item.now.lo }
+    ensures neither { result ≡ Neither → IsAtMost span.now.lo item.now.hi × IsAtMost item.now.lo span.now.hi }
 {
     let Ordering::Less = compare_ends(&item.hi, &span.lo) else {
         return match compare_ends(&span.hi, &item.lo) {
@@ -50,20 +40,6 @@ fn place_beside(span: &Span, item: &Span) -> Beside
         };
     };
     Beside::Right
-}
-
-fn place_over(span: &Span, first: &Span) -> Stand
-    ensures behind { result ≡ Behind → IsAtMost first.now.hi span.now.lo }
-    ensures before { result ≡ Before → IsBelow span.now.lo first.now.hi × IsAtMost span.now.hi first.now.lo }
-    ensures over { result ≡ Over → IsBelow span.now.lo first.now.hi × IsBelow first.now.lo span.now.hi }
-{
-    let Ordering::Less = compare_ends(&span.lo, &first.hi) else {
-        return Stand::Behind;
-    };
-    let Ordering::Less = compare_ends(&first.lo, &span.hi) else {
-        return Stand::Before;
-    };
-    Stand::Over
 }
 
 /// The items of the first level laid over the second. The list says of the parts from that of the levels
@@ -131,14 +107,14 @@ fn lay_item(
             Ok(whole)
         }
         None => {
-            let whole = cover(levels, alloc, root, item.span)?;
+            let whole = cover(levels, alloc, item.part, root, item.span)?;
             Ok(whole)
         }
     }
 }
 
 // An item laid over a level, whatever its child: on one side of the topmost item where it lies apart from
-// that, else from the first item on.
+// that, else on both sides and over that.
 #[cycle(unite)]
 fn lay_over(
     levels: &mut Levels,
@@ -182,92 +158,139 @@ fn lay_over(
             Ok(whole)
         }
         Beside::Neither => {
-            let Ok(same) = levels.branch(top.item, top.left, top.right) else {
-                levels.free(item.child);
-                return Err(AllocError);
-            };
-            let whole = lay_from_first(levels, alloc, parts, item, same)?;
+            let whole = lay_across(levels, alloc, parts, item, top)?;
             Ok(whole)
         }
     }
 }
 
-// An item laid over a level, from the first item of that on.
+// An item laid over a level whose topmost item it reaches: what it has before that over the items to the
+// left, and the rest over that and the items to the right.
 #[cycle(unite)]
-fn lay_from_first(
+fn lay_across(
     levels: &mut Levels,
     alloc: Global,
     parts: &[bool],
     item: Item,
-    root: Option<usize>,
+    top: Opened,
 ) -> Result<Option<usize>, AllocError>
-    requires owns { Owns levels.old (item.child ∷ root ∷ []) }
+    requires owns { Owns levels.old (item.child ∷ top.item.child ∷ top.left ∷ top.right ∷ []) }
     requires alone { ArePlaced parts.now (one_item item.span (level_of levels.old item.child) no_items) }
-    requires level { ArePlaced parts.now (level_of levels.old root) }
-    ensures ok { IfOk result (λ r. Step levels.old levels.new (item.child ∷ root ∷ []) (r ∷ [])) }
-    ensures level { IfOk result (λ r. level_of levels.new r ≡ lay (union_below parts.now) item.span (level_of levels.old item.child) (level_of levels.old root)) }
-    ensures err { OnErr result (Step levels.old levels.new (item.child ∷ root ∷ []) []) }
+    requires level { ArePlaced parts.now (between levels.old top.left top.item top.right) }
+    requires reaches { IsAtMost item.span.lo top.item.span.hi × IsAtMost top.item.span.lo item.span.hi }
+    ensures ok { IfOk result (λ r. Step levels.old levels.new (item.child ∷ top.item.child ∷ top.left ∷ top.right ∷ []) (r ∷ [])) }
+    ensures level { IfOk result (λ r. level_of levels.new r ≡ lay (union_below parts.now) item.span (level_of levels.old item.child) (between levels.old top.left top.item top.right)) }
+    ensures err { OnErr result (Step levels.old levels.new (item.child ∷ top.item.child ∷ top.left ∷ top.right ∷ []) []) }
 {
-    let Some(key) = root else {
-        let whole = join(levels, None, item, root)?;
-        return Ok(whole);
-    };
-    let Ok(first) = take_first(levels, key) else {
+    let Opened {
+        item: under,
+        left,
+        right,
+    } = top;
+    let Ok(front) = lay_front(levels, alloc, parts, &item, &under.span.lo, left) else {
         levels.free(item.child);
+        levels.free(under.child);
+        levels.free(right);
         return Err(AllocError);
     };
-    match place_over(&item.span, &first.item.span) {
-        Stand::Behind => match lay_from_first(levels, alloc, parts, item, first.rest) {
-            Ok(rest) => {
-                let whole = weld_front(levels, first.item, rest)?;
-                Ok(whole)
-            }
-            Err(error) => {
-                levels.free(first.item.child);
-                Err(error)
-            }
-        },
-        Stand::Before => {
-            let whole = meld(levels, item, first.item, first.rest)?;
+    match lay_onto(levels, alloc, parts, item, under, right) {
+        Ok(back) => {
+            let whole = glue(levels, front, back)?;
             Ok(whole)
         }
-        Stand::Over => {
-            let whole = overlay(levels, alloc, parts, item, first)?;
-            Ok(whole)
+        Err(error) => {
+            levels.free(front);
+            Err(error)
         }
     }
 }
 
-// An item laid over a level with whose first item it overlaps.
+// What an item has before an end laid over a level. The child stays held; the level's handle is spent in
+// every case.
 #[cycle(unite)]
-fn overlay(
+fn lay_front(
+    levels: &mut Levels,
+    alloc: Global,
+    parts: &[bool],
+    item: &Item,
+    edge: &End,
+    rest: Option<usize>,
+) -> Result<Option<usize>, AllocError>
+    requires owns { Owns levels.old (item.now.child ∷ rest ∷ []) }
+    requires alone { ArePlaced parts.now (one_item item.now.span (level_of levels.old item.now.child) no_items) }
+    requires level { ArePlaced parts.now (level_of levels.old rest) }
+    ensures ok { IfOk result (λ r. Step levels.old levels.new (rest ∷ []) (r ∷ [])) }
+    ensures level { IfOk result (λ r. level_of levels.new r ≡ ahead (union_below parts.now) item.now.span (level_of levels.old item.now.child) edge.now (level_of levels.old rest)) }
+    ensures err { OnErr result (Step levels.old levels.new (rest ∷ []) []) }
+{
+    let Ordering::Less = compare_ends(&item.span.lo, edge) else {
+        return Ok(rest);
+    };
+    match shared_item(levels, alloc, item.part, &item.span.lo, edge, item.child) {
+        Ok(piece) => {
+            let whole = lay_over(levels, alloc, parts, piece, rest)?;
+            Ok(whole)
+        }
+        Err(error) => {
+            levels.free(rest);
+            Err(error)
+        }
+    }
+}
+
+// What an item has from where another begins, laid over that and the items behind it.
+#[cycle(unite)]
+fn lay_onto(
     levels: &mut Levels,
     alloc: Global,
     parts: &[bool],
     item: Item,
-    first: First,
+    under: Item,
+    rest: Option<usize>,
 ) -> Result<Option<usize>, AllocError>
-    requires owns { Owns levels.old (item.child ∷ first.item.child ∷ first.rest ∷ []) }
+    requires owns { Owns levels.old (item.child ∷ under.child ∷ rest ∷ []) }
     requires alone { ArePlaced parts.now (one_item item.span (level_of levels.old item.child) no_items) }
-    requires level { ArePlaced parts.now (one_item first.item.span (level_of levels.old first.item.child) (level_of levels.old first.rest)) }
-    requires over { IsBelow item.span.lo first.item.span.hi × IsBelow first.item.span.lo item.span.hi }
-    ensures ok { IfOk result (λ r. Step levels.old levels.new (item.child ∷ first.item.child ∷ first.rest ∷ []) (r ∷ [])) }
-    ensures level { IfOk result (λ r. level_of levels.new r ≡ lay (union_below parts.now) item.span (level_of levels.old item.child) (one_item first.item.span (level_of levels.old first.item.child) (level_of levels.old first.rest))) }
-    ensures err { OnErr result (Step levels.old levels.new (item.child ∷ first.item.child ∷ first.rest ∷ []) []) }
+    requires level { ArePlaced parts.now (one_item under.span (level_of levels.old under.child) (level_of levels.old rest)) }
+    ensures ok { IfOk result (λ r. Step levels.old levels.new (item.child ∷ under.child ∷ rest ∷ []) (r ∷ [])) }
+    ensures level { IfOk result (λ r. level_of levels.new r ≡ in_parts item.span under.span (level_of levels.old under.child) (union_below parts.now (level_of levels.old item.child) (level_of levels.old under.child)) (past (union_below parts.now) item.span (level_of levels.old item.child) under.span.hi (level_of levels.old rest))) }
+    ensures err { OnErr result (Step levels.old levels.new (item.child ∷ under.child ∷ rest ∷ []) []) }
 {
-    let First { item: under, rest } = first;
     let Ok(behind) = left_over(levels, alloc, parts, &item, &under, rest) else {
         levels.free(item.child);
         levels.free(under.child);
         return Err(AllocError);
     };
-    let Ok(both) = unite_below(levels, alloc, parts, item.child, under.child) else {
+    let Ok(both) = unite_common(levels, alloc, parts, &item, &under) else {
         levels.free(item.child);
         levels.free(under.child);
         levels.free(behind);
         return Err(AllocError);
     };
     let whole = spread(levels, alloc, item, under, both, behind)?;
+    Ok(whole)
+}
+
+// What goes on below either of two items that overlap; of two that only touch nothing is said. Their
+// children stay held.
+#[cycle(unite)]
+fn unite_common(
+    levels: &mut Levels,
+    alloc: Global,
+    parts: &[bool],
+    item: &Item,
+    under: &Item,
+) -> Result<Option<usize>, AllocError>
+    requires owns { Owns levels.old (item.now.child ∷ under.now.child ∷ []) }
+    requires first { ArePlacedBelow parts.now (level_of levels.old item.now.child) }
+    requires second { ArePlacedBelow parts.now (level_of levels.old under.now.child) }
+    ensures ok { IfOk result (λ r. Step levels.old levels.new [] (r ∷ [])) }
+    ensures level { IfOk result (λ r. IsBelow (later item.now.span.lo under.now.span.lo) (earlier item.now.span.hi under.now.span.hi) → level_of levels.new r ≡ union_below parts.now (level_of levels.old item.now.child) (level_of levels.old under.now.child)) }
+    ensures err { OnErr result (Step levels.old levels.new [] []) }
+{
+    if !have_common(&item.span, &under.span) {
+        return Ok(None);
+    }
+    let whole = unite_below(levels, alloc, parts, item.child, under.child)?;
     Ok(whole)
 }
 
@@ -292,7 +315,14 @@ fn left_over(
     let Ordering::Greater = compare_ends(&item.span.hi, &under.span.hi) else {
         return Ok(rest);
     };
-    match shared_item(levels, alloc, &under.span.hi, &item.span.hi, item.child) {
+    match shared_item(
+        levels,
+        alloc,
+        item.part,
+        &under.span.hi,
+        &item.span.hi,
+        item.child,
+    ) {
         Ok(piece) => {
             let whole = lay_over(levels, alloc, parts, piece, rest)?;
             Ok(whole)

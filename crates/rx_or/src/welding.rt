@@ -46,6 +46,7 @@ pub fn meld(
     if is_one(levels, &a, &b) {
         levels.free(b.child);
         let item = Item {
+            part: a.part,
             span: span_over(a.span, b.span),
             child: a.child,
         };
@@ -92,10 +93,11 @@ pub fn weld_front(
     }
 }
 
-/// An item between two ends, with a handle more of its child. The error is want of memory.
+/// An item of this part between two ends, with a handle more of its child. The error is want of memory.
 pub fn shared_item(
     levels: &mut Levels,
     alloc: Global,
+    part: u32,
     lo: &End,
     hi: &End,
     child: Option<usize>,
@@ -110,14 +112,15 @@ pub fn shared_item(
     let hi = copy_end(alloc, hi)?;
     levels.hold(child)?;
     let span = Span { lo, hi };
-    Ok(Item { span, child })
+    Ok(Item { part, span, child })
 }
 
-/// What lies between two ends over a child, where the first is below the second, before a level. The
-/// child stays held; the level's handle is spent in every case. The error is want of memory.
+/// What lies between two ends of this part over a child, where the first is below the second, before a
+/// level. The child stays held; the level's handle is spent in every case. The error is want of memory.
 pub fn put_between(
     levels: &mut Levels,
     alloc: Global,
+    part: u32,
     lo: &End,
     hi: &End,
     child: Option<usize>,
@@ -131,7 +134,7 @@ pub fn put_between(
     let Ordering::Less = compare_ends(lo, hi) else {
         return Ok(rest);
     };
-    match shared_item(levels, alloc, lo, hi, child) {
+    match shared_item(levels, alloc, part, lo, hi, child) {
         Ok(item) => {
             let whole = weld_front(levels, item, rest)?;
             Ok(whole)

@@ -1,10 +1,9 @@
-use Rattle.std.proofs.Common.{◌≡◌, ◌-◌, ◌∙◌, Bool, false, List, [], ◌∷◌, length, get_or, take, drop, arith, refl, ap, ap₂}
+use Rattle.std.proofs.Common.{◌≡◌, ◌-◌, ◌∙◌, Bool, false, List, [], ◌∷◌, length, get_or, take, drop, arith, refl, ap}
 use Rattle.rx_level.specs.Step.{level_of}
-use Rattle.rx_or.proofs.Laid.{parts_order, cover_lay, below_first, below_second, first_and_rest, first_and_drop, all_below, some_below}
+use Rattle.rx_or.proofs.Laid.{parts_order, placed_left, cover_lay, below_first, below_second, first_and_rest, first_and_drop, all_below, some_below}
 use Rattle.rx_or.proofs.Opened.{none_level}
-use Rattle.rx_or.proofs.Following.{taken, taken_right, behind, laid_on, laid_level, first_taken, behind_level, before_level, over_level, overlay_level, kept_below, are_held, united, taken_aside, aside_left, aside_right, right_level, left_level, again}
+use Rattle.rx_or.proofs.Following.{taken, taken_right, behind, laid_on, laid_level, kept_below, onto_level, are_held, united, taken_aside, aside_left, aside_right, right_level, left_level, over_level, piece_made, fronted, front_order, across_level}
 use Rattle.rx_tree.specs.Join.{length_of}
-use Rattle.rx_tree.specs.Union.{lay}
 use Rattle.rx_or.proofs.Welded.{owned_lent}
 use Rattle.rx_or.specs.Below.{union_below}
 use Rattle.rx_or.proofs.uniting.+unite.Goals.{unite_below-then-count-eq0-via-then-count-eq0, unite_below-then-count-eq0-via-else-count-eq0+then-count-eq0-2}
@@ -43,32 +42,6 @@ lay_items-returns-clause-level t c =
     let o = laid_on c.args.levels.now c.open.new.self c.lay_items.new.levels c.lay_item.new.levels c.args.parts.now c.args.g c.args.h c.in-Ok.top.left c.in-Ok.top.right c.in-Ok-lay_items.after c.in-Ok-lay_item.laid c.in-Ok.top.item x k c.in-Ok-lay_item.ensures.ok c.in-Ok-lay_item.ensures.level in
     laid_level c.args.levels.now c.open.new.self c.lay_items.new.levels c.lay_item.new.levels c.lay_items-2.new.levels c.args.parts.now c.args.g c.args.h c.in-Ok.top.left c.in-Ok.top.right c.in-Ok-lay_items.after c.in-Ok-lay_item.laid c.in_ok-whole.whole c.in-Ok.top.item x k o
     c.in-Ok-lay_items.ensures.level c.in-Ok-lay_item.ensures.level c.in_ok-whole.ensures.level
-
-pub lay_from_first-returns-in_ok-whole-in-Ok-lay_from_first-clause-level : goal.lay_from_first-returns-in_ok-whole-in-Ok-lay_from_first-clause-level
-lay_from_first-returns-in_ok-whole-in-Ok-lay_from_first-clause-level t c =
-    let x = first_taken c.args.levels.now c.take_first.new.levels c.args.parts.now c.args.item c.in-Ok.first.item c.args.root c.in-Ok.first.rest c.in-Some.key c.in-Some.is c.requires.owns c.in-Ok.ensures.ok c.in-Ok.ensures.level c.requires.alone c.requires.level in
-    behind_level c.args.levels.now c.take_first.new.levels c.lay_from_first.new.levels c.weld_front.new.levels c.args.parts.now c.args.item c.in-Ok.first.item c.args.root c.in-Ok.first.rest c.in-Ok-lay_from_first.rest c.in_ok-whole-in-Ok-lay_from_first.whole x
-    c.in-Ok-lay_from_first.ensures.ok (c.in-Behind.ensures.behind refl) c.in-Ok-lay_from_first.ensures.level c.in_ok-whole-in-Ok-lay_from_first.ensures.level
-
-pub lay_from_first-returns-in_ok-whole-in-Before-clause-level : goal.lay_from_first-returns-in_ok-whole-in-Before-clause-level
-lay_from_first-returns-in_ok-whole-in-Before-clause-level t c =
-    let x = first_taken c.args.levels.now c.take_first.new.levels c.args.parts.now c.args.item c.in-Ok.first.item c.args.root c.in-Ok.first.rest c.in-Some.key c.in-Some.is c.requires.owns c.in-Ok.ensures.ok c.in-Ok.ensures.level c.requires.alone c.requires.level in
-    before_level c.args.levels.now c.take_first.new.levels c.meld.new.levels c.args.parts.now c.args.item c.in-Ok.first.item c.args.root c.in-Ok.first.rest c.in_ok-whole-in-Before.whole x (c.in-Before.ensures.before refl) c.in_ok-whole-in-Before.ensures.level
-
-pub lay_from_first-returns-in_ok-whole-in-Over-clause-level : goal.lay_from_first-returns-in_ok-whole-in-Over-clause-level
-lay_from_first-returns-in_ok-whole-in-Over-clause-level t c =
-    let x = first_taken c.args.levels.now c.take_first.new.levels c.args.parts.now c.args.item c.in-Ok.first.item c.args.root c.in-Ok.first.rest c.in-Some.key c.in-Some.is c.requires.owns c.in-Ok.ensures.ok c.in-Ok.ensures.level c.requires.alone c.requires.level in
-    over_level c.args.levels.now c.take_first.new.levels c.overlay.new.levels c.args.parts.now c.args.item c.in-Ok.first.item c.args.root c.in-Ok.first.rest c.in_ok-whole-in-Over.whole x c.in_ok-whole-in-Over.ensures.level
-
-pub overlay-unite_below-requires : goal.overlay-unite_below-requires
-overlay-unite_below-requires t c =
-    let k = kept_below c.args.levels.now c.left_over.new.levels c.args.parts.now c.args.item c.args.first.item c.args.first.rest c.in-Ok.behind c.requires.owns c.in-Ok.ensures.ok c.requires.alone c.requires.level in
-    (omega (arith, c.decreases), (record { sound = c.in-Ok.ensures.ok.sound; owned = λ m. omega (arith, c.requires.owns.owned m, c.in-Ok.ensures.ok.held m) }, (k.first, k.second)))
-
-pub overlay-returns-clause-level : goal.overlay-returns-clause-level
-overlay-returns-clause-level t c =
-    overlay_level c.args.levels.now c.left_over.new.levels c.unite_below.new.levels c.spread.new.levels c.args.parts.now c.args.item c.args.first.item c.args.first.rest c.in-Ok.behind c.in-Ok-unite_below.both c.in_ok-whole.whole
-    c.requires.owns c.in-Ok.ensures.ok c.in-Ok-unite_below.ensures.ok c.requires.over c.in-Ok.ensures.level c.in-Ok-unite_below.ensures.level c.in_ok-whole.ensures.level
 
 pub unite_below-hold-requires : goal.unite_below-hold-requires
 unite_below-hold-requires t c = owned_lent c.args.levels.now _ c.args.c c.requires.owns (λ m. omega arith)
@@ -117,18 +90,12 @@ unite_below-returns-clause-level t c =
 pub lay_over-lay_over-requires : goal.lay_over-lay_over-requires
 lay_over-lay_over-requires t c =
     let x = taken_aside c.args.levels.now c.open.new.self c.args.parts.now c.args.item c.in-Ok.top.item c.args.root c.in-Ok.top.left c.in-Ok.top.right c.in-Some.key c.in-Some.is c.requires.owns c.in-Ok.ensures.ok c.in-Ok.ensures.level c.requires.alone c.requires.level in
-    (omega (arith, x.shorter_right, c.decreases), (record { sound = x.sound; owned = λ m. omega (arith, x.held m) }, (x.alone, aside_right c.args.levels.now c.open.new.self c.args.parts.now c.args.item c.in-Ok.top.item c.args.root c.in-Ok.top.left c.in-Ok.top.right x)))
+    (omega (arith, x.long, c.decreases), (record { sound = x.sound; owned = λ m. omega (arith, x.held m) }, (x.alone, aside_right c.args.levels.now c.open.new.self c.args.parts.now c.args.item c.in-Ok.top.item c.args.root c.in-Ok.top.left c.in-Ok.top.right x)))
 
 pub lay_over-lay_over-requires-in-Left : goal.lay_over-lay_over-requires-in-Left
 lay_over-lay_over-requires-in-Left t c =
     let x = taken_aside c.args.levels.now c.open.new.self c.args.parts.now c.args.item c.in-Ok.top.item c.args.root c.in-Ok.top.left c.in-Ok.top.right c.in-Some.key c.in-Some.is c.requires.owns c.in-Ok.ensures.ok c.in-Ok.ensures.level c.requires.alone c.requires.level in
-    (omega (arith, x.shorter_left, c.decreases), (record { sound = x.sound; owned = λ m. omega (arith, x.held m) }, (x.alone, aside_left c.args.levels.now c.open.new.self c.args.parts.now c.args.item c.in-Ok.top.item c.args.root c.in-Ok.top.left c.in-Ok.top.right x)))
-
-pub lay_over-lay_from_first-requires : goal.lay_over-lay_from_first-requires
-lay_over-lay_from_first-requires t c =
-    let x = taken_aside c.args.levels.now c.open.new.self c.args.parts.now c.args.item c.in-Ok.top.item c.args.root c.in-Ok.top.left c.in-Ok.top.right c.in-Some.key c.in-Some.is c.requires.owns c.in-Ok.ensures.ok c.in-Ok.ensures.level c.requires.alone c.requires.level in
-    let k = again c.args.levels.now c.open.new.self c.branch-same.new.self c.args.parts.now c.args.item c.in-Ok.top.item c.args.root c.in-Ok.top.left c.in-Ok.top.right c.in_Ok-same-in-Neither.same x c.in_Ok-same-in-Neither.ensures.ok c.in_Ok-same-in-Neither.ensures.level in
-    (omega (arith, ap length_of k.level, c.decreases), (record { sound = k.sound; owned = λ m. omega (arith, k.held m) }, (k.alone, k.placed)))
+    (omega (arith, x.long, c.decreases), (record { sound = x.sound; owned = λ m. omega (arith, x.held m) }, (x.alone, aside_left c.args.levels.now c.open.new.self c.args.parts.now c.args.item c.in-Ok.top.item c.args.root c.in-Ok.top.left c.in-Ok.top.right x)))
 
 pub lay_over-returns-in_ok-whole-in-Right-clause-level : goal.lay_over-returns-in_ok-whole-in-Right-clause-level
 lay_over-returns-in_ok-whole-in-Right-clause-level t c =
@@ -140,8 +107,52 @@ lay_over-returns-in_ok-whole-in-Left-clause-level t c =
     let x = taken_aside c.args.levels.now c.open.new.self c.args.parts.now c.args.item c.in-Ok.top.item c.args.root c.in-Ok.top.left c.in-Ok.top.right c.in-Some.key c.in-Some.is c.requires.owns c.in-Ok.ensures.ok c.in-Ok.ensures.level c.requires.alone c.requires.level in
     left_level c.args.levels.now c.open.new.self c.lay_over-in-Left.new.levels c.join-in-Left.new.levels c.args.parts.now c.args.item c.in-Ok.top.item c.args.root c.in-Ok.top.left c.in-Ok.top.right c.in-Ok-lay_over-2.front c.in_ok-whole-in-Left.whole x c.in-Ok-lay_over-2.ensures.ok (c.in-Left.ensures.left refl) c.in-Ok-lay_over-2.ensures.level c.in_ok-whole-in-Left.ensures.level
 
+pub lay_over-lay_across-requires : goal.lay_over-lay_across-requires
+lay_over-lay_across-requires t c =
+    let x = taken_aside c.args.levels.now c.open.new.self c.args.parts.now c.args.item c.in-Ok.top.item c.args.root c.in-Ok.top.left c.in-Ok.top.right c.in-Some.key c.in-Some.is c.requires.owns c.in-Ok.ensures.ok c.in-Ok.ensures.level c.requires.alone c.requires.level in
+    (omega (arith, x.long, c.decreases), (record { sound = x.sound; owned = λ m. omega (arith, x.held m) }, (x.alone, (x.placed, c.in-Neither.ensures.neither refl))))
+
 pub lay_over-returns-in_ok-whole-in-Neither-clause-level : goal.lay_over-returns-in_ok-whole-in-Neither-clause-level
 lay_over-returns-in_ok-whole-in-Neither-clause-level t c =
     let x = taken_aside c.args.levels.now c.open.new.self c.args.parts.now c.args.item c.in-Ok.top.item c.args.root c.in-Ok.top.left c.in-Ok.top.right c.in-Some.key c.in-Some.is c.requires.owns c.in-Ok.ensures.ok c.in-Ok.ensures.level c.requires.alone c.requires.level in
-    let k = again c.args.levels.now c.open.new.self c.branch-same.new.self c.args.parts.now c.args.item c.in-Ok.top.item c.args.root c.in-Ok.top.left c.in-Ok.top.right c.in_Ok-same-in-Neither.same x c.in_Ok-same-in-Neither.ensures.ok c.in_Ok-same-in-Neither.ensures.level in
-    c.in_ok-whole-in-Neither.ensures.level ∙ ap₂ (lay (union_below c.args.parts.now) c.args.item.span) k.child k.level
+    over_level c.args.levels.now c.open.new.self c.lay_across.new.levels c.args.parts.now c.args.item c.in-Ok.top.item c.args.root c.in-Ok.top.left c.in-Ok.top.right c.in_ok-whole-in-Neither.whole x c.in_ok-whole-in-Neither.ensures.level
+
+pub lay_across-lay_front-requires : goal.lay_across-lay_front-requires
+lay_across-lay_front-requires t c = (
+  omega (arith, c.decreases),
+  (
+    record { sound = c.requires.owns.sound; owned = λ m. omega (arith, c.requires.owns.owned m) },
+    (c.requires.alone, placed_left c.args.parts.now (level_of c.args.levels.now c.args.top.left) _ c.requires.level),
+  ),
+)
+
+pub lay_across-lay_onto-requires : goal.lay_across-lay_onto-requires
+lay_across-lay_onto-requires t c =
+    let x = fronted c.args.levels.now c.lay_front.new.levels c.args.parts.now c.args.item c.args.top.item c.args.top.left c.args.top.right c.in-Ok.front c.requires.owns c.in-Ok.ensures.ok c.requires.alone c.requires.level c.in-Ok.ensures.level in
+    (omega (arith, ap length_of x.behind, c.decreases), (record { sound = x.sound; owned = λ m. omega (arith, x.held m) }, (x.alone, x.placed)))
+
+pub lay_across-glue-requires-clause-order : goal.lay_across-glue-requires-clause-order
+lay_across-glue-requires-clause-order t c =
+    let x = fronted c.args.levels.now c.lay_front.new.levels c.args.parts.now c.args.item c.args.top.item c.args.top.left c.args.top.right c.in-Ok.front c.requires.owns c.in-Ok.ensures.ok c.requires.alone c.requires.level c.in-Ok.ensures.level in
+    front_order c.args.levels.now c.lay_front.new.levels c.lay_onto.new.levels c.args.parts.now c.args.item c.args.top.item c.args.top.right c.in-Ok.front _ x c.in-Ok-lay_onto.ensures.ok
+
+pub lay_across-returns-in_ok-whole-in-Ok-lay_onto-clause-level : goal.lay_across-returns-in_ok-whole-in-Ok-lay_onto-clause-level
+lay_across-returns-in_ok-whole-in-Ok-lay_onto-clause-level t c =
+    let x = fronted c.args.levels.now c.lay_front.new.levels c.args.parts.now c.args.item c.args.top.item c.args.top.left c.args.top.right c.in-Ok.front c.requires.owns c.in-Ok.ensures.ok c.requires.alone c.requires.level c.in-Ok.ensures.level in
+    across_level c.args.levels.now c.lay_front.new.levels c.lay_onto.new.levels c.glue.new.levels c.args.parts.now c.args.item c.args.top.item c.args.top.left c.args.top.right c.in-Ok.front c.in-Ok-lay_onto.back c.in_ok-whole-in-Ok-lay_onto.whole x
+    c.in-Ok-lay_onto.ensures.ok c.requires.alone c.requires.level c.requires.reaches c.in-Ok.ensures.level c.in-Ok-lay_onto.ensures.level c.in_ok-whole-in-Ok-lay_onto.ensures.level
+
+pub lay_front-lay_over-requires : goal.lay_front-lay_over-requires
+lay_front-lay_over-requires t c =
+    let x = piece_made c.args.levels.now c.shared_item.new.levels c.args.parts.now c.args.item.now c.in-Ok.piece c.args.edge.now c.args.rest c.compare_ends.result c.requires.owns c.in-Ok.ensures.ok c.in-Ok.ensures.child c.in-Ok.ensures.span c.compare_ends.ensures c.in-Less.is c.requires.alone c.requires.level in
+    (omega (arith, ap length_of x.kept, c.decreases), (record { sound = x.sound; owned = λ m. omega (arith, x.held m) }, (x.alone, x.placed)))
+
+pub lay_onto-unite_common-requires : goal.lay_onto-unite_common-requires
+lay_onto-unite_common-requires t c =
+    let k = kept_below c.args.levels.now c.left_over.new.levels c.args.parts.now c.args.item c.args.under c.args.rest c.in-Ok.behind c.requires.owns c.in-Ok.ensures.ok c.requires.alone c.requires.level in
+    (omega (arith, c.decreases), (record { sound = c.in-Ok.ensures.ok.sound; owned = λ m. omega (arith, c.requires.owns.owned m, c.in-Ok.ensures.ok.held m) }, (k.first, k.second)))
+
+pub lay_onto-returns-clause-level : goal.lay_onto-returns-clause-level
+lay_onto-returns-clause-level t c =
+    onto_level c.args.levels.now c.left_over.new.levels c.unite_common.new.levels c.spread.new.levels c.args.parts.now c.args.item c.args.under c.args.rest c.in-Ok.behind c.in-Ok-unite_common.both c.in_ok-whole.whole
+    c.requires.owns c.in-Ok.ensures.ok c.in-Ok-unite_common.ensures.ok c.in-Ok.ensures.level c.in-Ok-unite_common.ensures.level c.in_ok-whole.ensures.level

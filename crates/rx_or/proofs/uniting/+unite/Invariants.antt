@@ -12,11 +12,17 @@ decreases-lay_item l = 16 * 2 ^ 64 * length l.parts.now + 4 * length_of (level_o
 abbrev pub decreases-lay_over : goal.decreases-lay_over
 decreases-lay_over l = 16 * 2 ^ 64 * length l.parts.now + 4 * length_of (level_of l.levels.now l.root) + 3
 
-abbrev pub decreases-lay_from_first : goal.decreases-lay_from_first
-decreases-lay_from_first l = 16 * 2 ^ 64 * length l.parts.now + 4 * length_of (level_of l.levels.now l.root) + 2
+abbrev pub decreases-lay_across : goal.decreases-lay_across
+decreases-lay_across l = 16 * 2 ^ 64 * length l.parts.now + 4 * (length_of (level_of l.levels.now l.top.left) + length_of (level_of l.levels.now l.top.right)) + 6
 
-abbrev pub decreases-overlay : goal.decreases-overlay
-decreases-overlay l = 16 * 2 ^ 64 * length l.parts.now + 4 * length_of (level_of l.levels.now l.first.rest) + 5
+abbrev pub decreases-lay_front : goal.decreases-lay_front
+decreases-lay_front l = 16 * 2 ^ 64 * length l.parts.now + 4 * length_of (level_of l.levels.now l.rest) + 4
+
+abbrev pub decreases-lay_onto : goal.decreases-lay_onto
+decreases-lay_onto l = 16 * 2 ^ 64 * length l.parts.now + 4 * length_of (level_of l.levels.now l.rest) + 5
+
+abbrev pub decreases-unite_common : goal.decreases-unite_common
+decreases-unite_common l = 16 * 2 ^ 64 * length l.parts.now + 2
 
 abbrev pub decreases-left_over : goal.decreases-left_over
 decreases-left_over l = 16 * 2 ^ 64 * length l.parts.now + 4 * length_of (level_of l.levels.now l.rest) + 4
