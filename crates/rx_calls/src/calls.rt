@@ -58,6 +58,7 @@ fn and(
 ) -> Result<Handle, GraphFault>
     requires held { IsHeld arena.old (g ∷ h ∷ []) }
     requires few { handle_count arena.old < 2 ^ 32 }
+    requires canonical { AreCanonical arena.old }
     ensures ok { IfOk result (λ r. (roots : List Root) (i j : ℕ) → StandAt i j roots g h → Does (Operation.meet i j) (with_handles arena.old roots) (with_handles arena.new (without_two i j roots ++ r ∷ []))) }
     ensures err { OnErr result ((roots : List Root) (i j : ℕ) → StandAt i j roots g h → Does (Operation.refused_meet i j) (with_handles arena.old roots) (with_handles arena.new (without_two i j roots))) }
 {

@@ -4,5 +4,7 @@
 
 mod calls;
 mod laws;
+#[cfg(test)]
+mod tests;
 
 pub use laws::handles_have_the_trees_of_sets;
