@@ -7,8 +7,6 @@ mod copies;
 mod logic;
 mod parts;
 mod single;
-#[cfg(test)]
-mod tests;
 mod truths;
 
 pub use columns::mentions;

@@ -1,5 +1,5 @@
 -- The values that fields write.
-use Rattle.std.specs.Prelude.{ℕ, ◌^◌, ◌-◌, ◌≤◌, pos, neg_ℤ, Bool, true, false, ◌&&◌, List, [], ◌∷◌, length, Option, Some, None, Ok, Err, nat_lt, nat_le, ◌==◌, if◌then◌else◌}
+use Rattle.std.specs.Prelude.{ℕ, ◌^◌, ◌-◌, pos, neg_ℤ, Bool, true, false, ◌&&◌, List, [], ◌∷◌, length, Option, Some, None, Ok, Err, nat_lt, nat_le, ◌==◌, if◌then◌else◌}
 use Rattle.std.specs.Str.{all_ascii_digits, is_utf8, chars}
 use Rattle.std.specs.Str.Parse.{digits_value}
 use Rattle.rx_value.specs.declared.values.Value.{Value}
@@ -9,11 +9,6 @@ use Rattle.rx_value.specs.declared.shapes.ColType.TheVariants.{Whole, VarChar}
 use Rattle.rx_value.specs.declared.shapes.Column.{Column}
 use Rattle.rx_data.specs.declared.faults.DataFault.TheVariants.{BadValue, NullNotAllowed}
 use Rattle.rx_data.specs.Outcomes.{Outcome}
-
--- an integer type has 1 to 64 bits
-abbrev pub IsSized : ColType → Type 0
-IsSized (Whole bits signed) = (1 ≤ bits) × (bits ≤ 64)
-IsSized (VarChar count) = Unit {0}
 
 -- the greatest number of an integer type
 abbrev pub most : ℕ → Bool → ℕ

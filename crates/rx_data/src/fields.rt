@@ -1,6 +1,7 @@
 ghost use Rattle.std.specs.Prelude.{◌≡◌, ◌^◌, ◌-◌, ◌<◌, ◌≤◌, IfOk, length};
 ghost use Rattle.std.specs.Str.{chars};
-ghost use Rattle.rx_data.specs.Fields.{IsSized, most, least, number_within, integer_of, is_null_mark, fits_text, value_of, field_value};
+ghost use Rattle.rx_value.specs.Shape.{IsSized};
+ghost use Rattle.rx_data.specs.Fields.{most, least, number_within, integer_of, is_null_mark, fits_text, value_of, field_value};
 
 use crate::faults::DataFault;
 use rx_value::{Bytes, ColType, Column, Value};

@@ -5,8 +5,6 @@ mod faults;
 mod fields;
 mod records;
 mod rows;
-#[cfg(test)]
-mod tests;
 
 pub use faults::DataFault;
 pub use rows::read_rows;

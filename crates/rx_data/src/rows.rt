@@ -1,8 +1,7 @@
 ghost use Rattle.std.specs.Prelude.{◌≡◌, ◌≢◌, ◌==◌, ◌%◌, ◌≤◌, Ok, Err, All, length, map, IfOk, IfErr};
 ghost use Rattle.std.specs.Str.{str_eq_ignore_ascii_case};
 ghost use Rattle.csv.specs.Records.{fields_of};
-ghost use Rattle.rx_value.specs.Shape.{FitsRow};
-ghost use Rattle.rx_data.specs.Fields.{IsSized};
+ghost use Rattle.rx_value.specs.Shape.{IsSized, FitsRow};
 ghost use Rattle.rx_data.specs.Outcomes.{all_of};
 ghost use Rattle.rx_data.specs.Rows.{is_header, row_outcome, row_outcomes, rows_under, quotes_in, data_rows};
 

@@ -1,5 +1,5 @@
 pub mod Doubled
-pub mod Going
+pub mod Words
 pub mod Grammar
 pub mod Law
 pub mod Scanning

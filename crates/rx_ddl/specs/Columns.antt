@@ -11,7 +11,7 @@ use Rattle.rx_ddl.specs.declared.statements.Argument.TheVariants.{Number as Coun
 use Rattle.rx_ddl.specs.declared.statements.Attribute.{Attribute}
 use Rattle.rx_ddl.specs.declared.statements.Attribute.TheVariants.{Unsigned, Zerofill, NotNull, Null, CharacterSet, Collate, Other}
 use Rattle.rx_ddl.specs.declared.statements.ColumnDefinition.{ColumnDefinition}
-use Rattle.rx_ddl.specs.Many.{past_nothing, many_at}
+use Rattle.rx_reading.specs.Many.{past_nothing, many_at}
 
 -- the value of a number
 abbrev pub number_of : TokenKind → Option ℕ

@@ -10,7 +10,7 @@ use Rattle.rx_ddl.specs.declared.statements.KeyKind.TheVariants.{Primary, Unique
 use Rattle.rx_ddl.specs.declared.statements.KeyPart.{KeyPart}
 use Rattle.rx_ddl.specs.declared.statements.KeyDefinition.{KeyDefinition}
 use Rattle.rx_ddl.specs.Columns.{number_at, past_comment}
-use Rattle.rx_ddl.specs.Many.{past_nothing, many_at}
+use Rattle.rx_reading.specs.Many.{past_nothing, many_at}
 
 -- the prefix length behind a parenthesis, and none where there isn't one
 abbrev pub prefix_of : List Token → Option (List Token) → Option (Option ℕ × List Token)

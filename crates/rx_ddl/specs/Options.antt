@@ -7,7 +7,7 @@ use Rattle.rx_token.specs.declared.kinds.TokenKind.TheVariants.{Word, Quoted, Nu
 use Rattle.rx_token.specs.declared.signs.TheConstants.{COMMA, EQUAL}
 use Rattle.rx_reading.specs.Reading.{Reader, ◌>>=◌, after_sign, word_at, items_at}
 use Rattle.rx_ddl.specs.declared.statements.TableOption.{TableOption}
-use Rattle.rx_ddl.specs.Many.{past_nothing, many_at}
+use Rattle.rx_reading.specs.Many.{past_nothing, many_at}
 
 -- a word, a number or a string
 abbrev pub is_value_kind : TokenKind → Bool

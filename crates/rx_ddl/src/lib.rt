@@ -8,8 +8,6 @@ mod keys;
 mod options;
 mod reading;
 mod statements;
-#[cfg(test)]
-mod tests;
 mod writing;
 
 pub use faults::CreateFault;

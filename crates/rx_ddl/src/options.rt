@@ -1,7 +1,7 @@
 ghost use Rattle.std.specs.Prelude.{◌≡◌, ◌<◌, ◌≤◌, ◌++◌, ◌∷◌, [], length, Some, IfOk, OnOk, IfSome};
 ghost use Rattle.std.specs.Option.{option_map};
 ghost use Rattle.rx_reading.specs.Reading.{word_at, items_at};
-ghost use Rattle.rx_ddl.specs.Many.{past_nothing};
+ghost use Rattle.rx_reading.specs.Many.{past_nothing};
 ghost use Rattle.rx_ddl.specs.Options.{is_value_kind, value_at, option_at, past_comma, options_at};
 
 use crate::statements::{OptionList, TableOption};

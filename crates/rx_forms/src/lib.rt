@@ -5,8 +5,6 @@ mod faults;
 mod fronts;
 mod scripts;
 mod statements;
-#[cfg(test)]
-mod tests;
 mod words;
 
 pub use faults::FormFault;

@@ -4,8 +4,6 @@
 mod lines;
 mod reading;
 mod refusals;
-#[cfg(test)]
-mod tests;
 
 pub use reading::{InputFault, Inputs, read_inputs};
 pub use refusals::Input;

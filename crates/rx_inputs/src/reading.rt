@@ -1,6 +1,5 @@
 ghost use Rattle.std.specs.Prelude.{◌≡◌, ◌≤◌, ◌||◌, IsTrue, IfOk, IfErr, All, length, map};
-ghost use Rattle.rx_value.specs.Shape.{IsSchema, FitsRow};
-ghost use Rattle.rx_data.specs.Fields.{IsSized};
+ghost use Rattle.rx_value.specs.Shape.{IsSized, IsSchema, FitsRow};
 ghost use Rattle.rx_outside.specs.Files.{KeepsFiles};
 ghost use Rattle.rx_forms.specs.Step.{step_of, SelectsWithin};
 ghost use Rattle.rx_store.specs.Stored.{IsStorable};

@@ -36,26 +36,3 @@ fn front_of(alloc: Global, pattern: &str) -> Result<(Vec<u8>, bool), AllocError>
     }
     Ok((front.into_bytes(), true))
 }
-
-#[cfg(test)]
-mod tests {
-    use super::*;
-
-    #[test]
-    fn fronts_of_patterns(rt: HostRuntime) -> Result<(), AllocError> {
-        let rows = [
-            ("ab_d%", "ab", false),
-            ("a\\_b", "a_b", true),
-            ("a\\", "a\\", true),
-            ("é%é", "é", false),
-            ("%", "", false),
-            ("", "", true),
-        ];
-        for (pattern, front, whole) in rows {
-            let (found, all) = prefix_of(rt.alloc(), pattern.as_bytes())?;
-            assert_eq!(rt; found.as_slice(), front.as_bytes(), "{pattern}");
-            assert_eq!(rt; all, whole, "{pattern}");
-        }
-        Ok(())
-    }
-}

@@ -17,6 +17,3 @@ pub use sure::{SureFiles, SureSink};
 /// A call of the outside failed.
 #[derive(Clone, Copy, Debug, PartialEq, Eq, Drop)]
 pub struct Failed;
-
-#[cfg(test)]
-mod tests;

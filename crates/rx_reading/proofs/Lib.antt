@@ -3,3 +3,4 @@ pub mod More
 pub mod Spelled
 pub mod Steps
 pub mod Whole
+pub mod Going

@@ -2,7 +2,5 @@
 #![tactic(auto)]
 
 mod fronts;
-#[cfg(test)]
-mod tests;
 
 pub use fronts::{after_sign, after_word, is_end, name_at, text_at, word_at};

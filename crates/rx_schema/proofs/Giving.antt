@@ -8,7 +8,7 @@ use Rattle.std.proofs.lemmas.List.Elements.{filter-append}
 use Rattle.rx_value.specs.declared.shapes.ColType.{ColType}
 use Rattle.rx_value.specs.declared.shapes.ColType.TheVariants.{Whole, VarChar}
 use Rattle.rx_value.specs.declared.shapes.Schema.{Schema}
-use Rattle.rx_value.specs.Shape.{FitsIndex, IsSchema}
+use Rattle.rx_value.specs.Shape.{IsSized, FitsIndex, IsSchema}
 use Rattle.rx_ddl.specs.declared.statements.ColumnDefinition.{ColumnDefinition}
 use Rattle.rx_ddl.specs.declared.statements.KeyDefinition.{KeyDefinition}
 use Rattle.rx_ddl.specs.declared.statements.CreateDefinition.{CreateDefinition}
@@ -24,7 +24,7 @@ use Rattle.rx_schema.specs.Columns.{declared_column, declared_columns}
 use Rattle.rx_schema.specs.Indexes.{declared_part, declared_index, is_of, keys_by_number, declared_indexes}
 use Rattle.rx_schema.specs.Outcomes.{Answers}
 use Rattle.rx_schema.specs.Schema.{declared, name_refusal, refusal, unless_refused, schema_of, outcome_of, read_of}
-use Rattle.rx_schema.specs.Tables.{IsSize, size_8, size_16, size_24, size_32, size_64, IsSized, IsKind, IsTypedColumn, IsWholePart, IsNamedIndex, names_of, index_names_of, IsGiven}
+use Rattle.rx_schema.specs.Tables.{IsSize, size_8, size_16, size_24, size_32, size_64, IsKind, IsTypedColumn, IsWholePart, IsNamedIndex, names_of, index_names_of, IsGiven}
 use Rattle.rx_schema.proofs.Every.{every_map, every_both, every_of, of_every, every_append, every_filter, every_passes, to_all, none_given, or_none, map_none, every_column, every_key, none_pass, every_any, filter_all, filter_none, filter_of, map_same, map_both}
 use Rattle.rx_schema.proofs.Fitting.{IsSoundKey, fits}
 use Rattle.rx_schema.proofs.Grammar.{IsNamedKey, IsNamedItem, IsNamedTable, primary_named, named_table}

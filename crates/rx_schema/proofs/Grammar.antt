@@ -18,7 +18,7 @@ use Rattle.rx_ddl.specs.declared.statements.CreateDefinition.{CreateDefinition}
 use Rattle.rx_ddl.specs.declared.statements.CreateDefinition.TheVariants.{Column, Key}
 use Rattle.rx_ddl.specs.declared.statements.TableOption.{TableOption}
 use Rattle.rx_ddl.specs.declared.statements.CreateTable.{CreateTable}
-use Rattle.rx_ddl.specs.Many.{past_nothing, many_at}
+use Rattle.rx_reading.specs.Many.{past_nothing, many_at}
 use Rattle.rx_ddl.specs.Columns.{number_of, number_at, number_argument_at, text_argument_at, argument_at, arguments_of, arguments_at, mark_at, not_null_at, marked_at, past_text, past_word as over_word, past_number, past_signed, past_default, past_comment, other_at, character_set_at, collate_at, attribute_at, column_at}
 use Rattle.rx_ddl.specs.Keys.{prefix_of, direction_of, direction_at, part_at, parts_at, using_at, remark_at, method_at, methods_at, after_key, kind_mark_at, plain_mark_at, key_kind_at, key_name_at, key_at}
 use Rattle.rx_ddl.specs.Create.{definition_of, definition_at, is_column, after_create, create_at, create_form}

@@ -18,11 +18,6 @@ pub data IsSize : ℕ → Type 0 where
   size_32 : IsSize 32
   size_64 : IsSize 64
 
--- an integer type has 1 to 64 bits
-abbrev pub IsSized : ColType → Type 0
-IsSized (Whole bits signed) = (1 ≤ bits) × (bits ≤ 64)
-IsSized (VarChar count) = Unit {0}
-
 -- an integer type, or a text of at most 255 characters
 abbrev pub IsKind : ColType → Type 0
 IsKind (Whole bits signed) = IsSize bits

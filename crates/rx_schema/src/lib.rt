@@ -9,8 +9,6 @@ mod limits;
 mod names;
 mod profile;
 mod reading;
-#[cfg(test)]
-mod tests;
 mod types;
 mod writing;
 

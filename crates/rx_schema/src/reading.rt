@@ -1,8 +1,8 @@
 ghost use Rattle.std.specs.Prelude.{IfOk, All};
-ghost use Rattle.rx_value.specs.Shape.{IsSchema};
+ghost use Rattle.rx_value.specs.Shape.{IsSized, IsSchema};
 ghost use Rattle.rx_schema.specs.Outcomes.{Answers};
 ghost use Rattle.rx_schema.specs.Schema.{read_of};
-ghost use Rattle.rx_schema.specs.Tables.{IsGiven, IsSized};
+ghost use Rattle.rx_schema.specs.Tables.{IsGiven};
 
 use crate::declaring::schema_of;
 use crate::faults::SchemaFault;

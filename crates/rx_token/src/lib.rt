@@ -8,8 +8,6 @@ mod lexemes;
 mod quotes;
 mod scans;
 pub mod signs;
-#[cfg(test)]
-mod tests;
 mod words;
 
 pub use blanks::comment_ends;

@@ -8,8 +8,6 @@ mod printing;
 mod scripts;
 mod settings;
 mod stops;
-#[cfg(test)]
-mod tests;
 mod tool;
 mod traces;
 mod words;

@@ -16,6 +16,11 @@ abbrev pub InRange : ℕ → Bool → ℤ → Type 0
 InRange bits true n = (pos 0 ≤ℤ (n +ℤ pos (2 ^ (bits - 1)))) × (n <ℤ pos (2 ^ (bits - 1)))
 InRange bits false n = (pos 0 ≤ℤ n) × (n <ℤ pos (2 ^ bits))
 
+-- an integer type has 1 to 64 bits
+abbrev pub IsSized : ColType → Type 0
+IsSized (Whole bits signed) = (1 ≤ bits) × (bits ≤ 64)
+IsSized (VarChar count) = Unit {0}
+
 -- a value is of a column's type, or NULL
 abbrev pub FitsType : ColType → Value → Type 0
 FitsType kind Null = Unit {0}

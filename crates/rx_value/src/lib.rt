@@ -6,8 +6,6 @@ mod order;
 mod ranges;
 mod shapes;
 mod spans;
-#[cfg(test)]
-mod tests;
 mod values;
 
 pub use lists::{
@@ -16,5 +14,5 @@ pub use lists::{
 pub use order::{End, Side, Span, compare_ends};
 pub use ranges::{Bound, Group, GroupList, KeyRange, RangeList, Rest, SpanList};
 pub use shapes::{ColType, Column, ColumnList, Index, IndexList, Part, PartList, Schema};
-pub use spans::{ends_are_ordered, meet, touches};
+pub use spans::{earlier, ends_are_ordered, later, meet, touches};
 pub use values::{Value, compare};

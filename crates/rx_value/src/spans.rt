@@ -41,7 +41,8 @@ pub fn touches(a: &Span, b: &Span) -> bool
     matches!(compare_ends(&a.hi, &b.lo), Ordering::Equal)
 }
 
-fn later<'a>(a: &'a End, b: &'a End) -> &'a End
+/// The later of two ends, the first where they are equal.
+pub fn later<'a>(a: &'a End, b: &'a End) -> &'a End
     ensures { result.now ≡ later a.now b.now }
 {
     match compare_ends(a, b) {
@@ -50,7 +51,8 @@ fn later<'a>(a: &'a End, b: &'a End) -> &'a End
     }
 }
 
-fn earlier<'a>(a: &'a End, b: &'a End) -> &'a End
+/// The earlier of two ends, the first where they are equal.
+pub fn earlier<'a>(a: &'a End, b: &'a End) -> &'a End
     ensures { result.now ≡ earlier a.now b.now }
 {
     match compare_ends(a, b) {

@@ -9,8 +9,6 @@ mod raw;
 mod resolving;
 mod rows;
 mod single;
-#[cfg(test)]
-mod tests;
 
 pub use conditions::{ParseFault, parse};
 pub use raw::{RawCond, RawOperand};

@@ -1,7 +1,7 @@
 use Rattle.std.proofs.Common.{refl, arith}
-use Rattle.rx_ddl.specs.Many.{past_nothing}
+use Rattle.rx_reading.specs.Many.{past_nothing}
 use Rattle.rx_ddl.specs.Columns.{attribute_at, attributes_at}
-use Rattle.rx_ddl.proofs.Going.{none_yet, on, over}
+use Rattle.rx_reading.proofs.Going.{none_yet, on, over}
 use Rattle.rx_ddl.proofs.attributes.attributes_at.Goals as goal
 
 pub attributes-init : goal.attributes-init

@@ -1,7 +1,7 @@
 use Rattle.std.proofs.Common.{◌≤◌, length}
-use Rattle.rx_ddl.specs.Many.{past_nothing}
+use Rattle.rx_reading.specs.Many.{past_nothing}
 use Rattle.rx_ddl.specs.Columns.{attribute_at, attributes_at}
-use Rattle.rx_ddl.proofs.Going.{Going}
+use Rattle.rx_reading.proofs.Going.{Going}
 use Rattle.rx_ddl.proofs.attributes.attributes_at.Given as goal
 
 abbrev pub invariant-attributes : goal.invariant-attributes

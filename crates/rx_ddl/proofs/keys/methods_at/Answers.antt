@@ -1,7 +1,8 @@
 use Rattle.std.proofs.Common.{[], ◌∷◌, ◌++◌, refl, arith}
-use Rattle.rx_ddl.specs.Many.{past_nothing, many_at}
+use Rattle.rx_reading.specs.Many.{past_nothing, many_at}
 use Rattle.rx_ddl.specs.Keys.{method_at}
-use Rattle.rx_ddl.proofs.Going.{none_yet, on, over, words_of, word_more}
+use Rattle.rx_reading.proofs.Going.{none_yet, on, over}
+use Rattle.rx_ddl.proofs.Words.{words_of, word_more}
 use Rattle.rx_ddl.proofs.keys.methods_at.Goals as goal
 
 pub methods-init : goal.methods-init

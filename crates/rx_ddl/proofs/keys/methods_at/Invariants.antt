@@ -1,9 +1,9 @@
 use Rattle.std.proofs.Common.{◌≡◌, ℕ, ◌≤◌, List, Option, length}
 use Rattle.std.specs.Option.{option_to_list}
 use Rattle.std.specs.List.{flat_map}
-use Rattle.rx_ddl.specs.Many.{past_nothing, many_at}
+use Rattle.rx_reading.specs.Many.{past_nothing, many_at}
 use Rattle.rx_ddl.specs.Keys.{method_at}
-use Rattle.rx_ddl.proofs.Going.{Going}
+use Rattle.rx_reading.proofs.Going.{Going}
 use Rattle.rx_ddl.proofs.keys.methods_at.Given as goal
 
 abbrev pub invariant-methods : goal.invariant-methods

@@ -1,5 +1,5 @@
 use Rattle.rx_ddl.specs.Options.{option_at, past_comma, options_at}
-use Rattle.rx_ddl.proofs.Going.{none_yet, on, over}
+use Rattle.rx_reading.proofs.Going.{none_yet, on, over}
 use Rattle.rx_ddl.proofs.options.options_at.Goals as goal
 
 pub options-init : goal.options-init

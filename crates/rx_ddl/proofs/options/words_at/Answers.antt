@@ -1,8 +1,8 @@
 use Rattle.std.proofs.Common.{refl, arith}
 use Rattle.rx_reading.specs.Reading.{word_at, items_at}
 use Rattle.rx_reading.proofs.More.{nothing}
-use Rattle.rx_ddl.specs.Many.{past_nothing}
-use Rattle.rx_ddl.proofs.Going.{one_read, on, over}
+use Rattle.rx_reading.specs.Many.{past_nothing}
+use Rattle.rx_reading.proofs.Going.{one_read, on, over}
 use Rattle.rx_ddl.proofs.options.words_at.Goals as goal
 
 pub returns-in_default-clause-value : goal.returns-in_default-clause-value

@@ -1,7 +1,7 @@
 use Rattle.std.proofs.Common.{◌<◌, length}
 use Rattle.rx_reading.specs.Reading.{word_at, items_at}
-use Rattle.rx_ddl.specs.Many.{past_nothing}
-use Rattle.rx_ddl.proofs.Going.{Going}
+use Rattle.rx_reading.specs.Many.{past_nothing}
+use Rattle.rx_reading.proofs.Going.{Going}
 use Rattle.rx_ddl.proofs.options.words_at.Given as goal
 
 abbrev pub invariant-words : goal.invariant-words

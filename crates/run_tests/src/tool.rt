@@ -1,5 +1,5 @@
-use crate::{Status, run};
 use rx_outside::{MemFiles, MemSink};
+use rx_tool::{Status, run};
 use std::alloc::{AllocError, Global};
 use std::test::Fail;
 
@@ -50,90 +50,80 @@ fn ran(
     Ok((ran.status, out, err))
 }
 
+const NULLABLE: &str = "CREATE TABLE t (a int, b int NOT NULL);";
+
+const NAMED: &str =
+    "CREATE TABLE `t` (`Name` varchar(9) NOT NULL, KEY `k` (`name`)) ENGINE=InnoDB;";
+
+const PAIRS: &str = "a,b\n1,2\n3,4\n";
+
+const NULLS: &str = "a,b\n\\N,2\n-3,4\n";
+
+const NAMES: &str = "Name\nb\\\n\"c\td\"\n\"\"\n";
+
+// The contents of the files, and the text that is put.
+const TEXTS: [([&str; 3], &str); 6] = [
+    ([SCHEMA, PAIRS, "SELECT b FROM t WHERE a > 1"], "4\n\\. 1\n"),
+    (
+        [SCHEMA, PAIRS, "SELECT * FROM T WHERE a >= -1 AND b <> 4;"],
+        "1\t2\n\\. 1\n",
+    ),
+    ([SCHEMA, "A,B\n", "SELECT b FROM t"], "\\. 0\n"),
+    (
+        [NULLABLE, NULLS, "SELECT b, a FROM t"],
+        "2\t\\N\n4\t-3\n\\. 2\n",
+    ),
+    (
+        [NULLABLE, NULLS, "SELECT b FROM t WHERE a != 5"],
+        "4\n\\. 1\n",
+    ),
+    (
+        [NAMED, NAMES, "SELECT name FROM t"],
+        "b\\\\\nc\\td\n\n\\. 3\n",
+    ),
+];
+
+// The contents of the files, and the line that is put.
+const REFUSALS: [([&str; 3], &str); 5] = [
+    (
+        ["CREATE TABLE t (a datetime)", PAIRS, ""],
+        "refused: schema: not in profile: column type\n",
+    ),
+    (
+        [SCHEMA, "a,b\n1\n", ""],
+        "refused: data: field count: row 1\n",
+    ),
+    (
+        [SCHEMA, "a,b\n1,2\n1,2147483648\n", ""],
+        "refused: data: bad value: row 2 column b\n",
+    ),
+    (
+        [SCHEMA, PAIRS, "SELECT a FROM t WHERE a = 1 OR a = 2"],
+        "refused: not built: script\n",
+    ),
+    (
+        [SCHEMA, PAIRS, "SELECT c FROM t"],
+        "refused: not built: script\n",
+    ),
+];
+
 #[test]
-fn puts_the_defined_text_or_line(rt: HostRuntime) -> Result<(), Fail> {
-    let nullable = "CREATE TABLE t (a int, b int NOT NULL);";
-    let pairs = "a,b\n1,2\n3,4\n";
-    let rows = [
-        (
-            [SCHEMA, pairs, "SELECT b FROM t WHERE a > 1"],
-            Status::Done,
-            "4\n\\. 1\n",
-            "",
-        ),
-        (
-            [SCHEMA, pairs, "SELECT * FROM T WHERE a >= -1 AND b <> 4;"],
-            Status::Done,
-            "1\t2\n\\. 1\n",
-            "",
-        ),
-        (
-            [SCHEMA, "A,B\n", "SELECT b FROM t"],
-            Status::Done,
-            "\\. 0\n",
-            "",
-        ),
-        (
-            [nullable, "a,b\n\\N,2\n-3,4\n", "SELECT b, a FROM t"],
-            Status::Done,
-            "2\t\\N\n4\t-3\n\\. 2\n",
-            "",
-        ),
-        (
-            [
-                nullable,
-                "a,b\n\\N,2\n-3,4\n",
-                "SELECT b FROM t WHERE a != 5",
-            ],
-            Status::Done,
-            "4\n\\. 1\n",
-            "",
-        ),
-        (
-            [
-                "CREATE TABLE `t` (`Name` varchar(9) NOT NULL, KEY `k` (`name`)) ENGINE=InnoDB;",
-                "Name\nb\\\n\"c\td\"\n\"\"\n",
-                "SELECT name FROM t",
-            ],
-            Status::Done,
-            "b\\\\\nc\\td\n\n\\. 3\n",
-            "",
-        ),
-        (
-            ["CREATE TABLE t (a datetime)", pairs, ""],
-            Status::Refused,
-            "",
-            "refused: schema: not in profile: column type\n",
-        ),
-        (
-            [SCHEMA, "a,b\n1\n", ""],
-            Status::Refused,
-            "",
-            "refused: data: field count: row 1\n",
-        ),
-        (
-            [SCHEMA, "a,b\n1,2\n1,2147483648\n", ""],
-            Status::Refused,
-            "",
-            "refused: data: bad value: row 2 column b\n",
-        ),
-        (
-            [SCHEMA, pairs, "SELECT a FROM t WHERE a = 1 OR a = 2"],
-            Status::Refused,
-            "",
-            "refused: not built: script\n",
-        ),
-        (
-            [SCHEMA, pairs, "SELECT c FROM t"],
-            Status::Refused,
-            "",
-            "refused: not built: script\n",
-        ),
-    ];
-    for (texts, status, text, line) in rows {
+fn puts_the_defined_text(rt: HostRuntime) -> Result<(), Fail> {
+    for (texts, text) in TEXTS {
         let (ended, out, err) = ran(rt.alloc(), &SELECT, texts)?;
-        assert_eq!(rt; ended, status, "{texts:?}");
+        assert_eq!(rt; ended, Status::Done, "{texts:?}");
         assert_eq!(rt; out.bytes(), text.as_bytes(), "{texts:?}");
+        assert_eq!(rt; err.bytes(), b"".as_slice(), "{texts:?}");
+    }
+    Ok(())
+}
+
+#[test]
+fn puts_the_defined_line(rt: HostRuntime) -> Result<(), Fail> {
+    for (texts, line) in REFUSALS {
+        let (ended, out, err) = ran(rt.alloc(), &SELECT, texts)?;
+        assert_eq!(rt; ended, Status::Refused, "{texts:?}");
+        assert_eq!(rt; out.bytes(), b"".as_slice(), "{texts:?}");
         assert_eq!(rt; err.bytes(), line.as_bytes(), "{texts:?}");
     }
     Ok(())
@@ -158,7 +148,7 @@ fn refuses_words_and_misses_files(rt: HostRuntime) -> Result<(), Fail> {
 #[test]
 fn traces_the_table_scan(rt: HostRuntime) -> Result<(), Fail> {
     let script = "SET optimizer_trace='enabled=on';SELECT b FROM t WHERE a > 1";
-    let (ended, out, _) = ran(rt.alloc(), &SELECT, [SCHEMA, "a,b\n1,2\n3,4\n", script])?;
+    let (ended, out, _) = ran(rt.alloc(), &SELECT, [SCHEMA, PAIRS, script])?;
     assert_eq!(rt; ended, Status::Done);
     let text =
         b"4\n\\. 1\n{\"chosen_range_access_summary\":{\"cost\":24,\"n\":1,\"type\":\"table_scan\"},\"range_analysis\":{\"analyzing_index_merge_union\":[],\"analyzing_roworder_intersect\":[],\"covering_index_scans\":[],\"group_index_range\":[],\"potential_range_indexes\":[],\"range_scan_alternatives\":[],\"skip_scan_range\":[],\"table_scan\":{\"cost\":24,\"index_only\":false,\"n\":1,\"rows\":2,\"scans\":[],\"type\":\"table_scan\"}},\"reads\":{\"dive_seeks\":0,\"entries\":0,\"rows\":2,\"seeks\":0},\"statement\":2}\n";
@@ -166,7 +156,7 @@ fn traces_the_table_scan(rt: HostRuntime) -> Result<(), Fail> {
     Ok(())
 }
 
-const ACCEPTED: [&str; 3] = [SCHEMA, "a,b\n1,2\n3,4\n", "SELECT b FROM t"];
+const ACCEPTED: [&str; 3] = [SCHEMA, PAIRS, "SELECT b FROM t"];
 
 #[test]
 fn each_call_of_the_files_fails_in_turn(rt: HostRuntime) -> Result<(), Fail> {

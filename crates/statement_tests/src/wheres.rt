@@ -1,34 +1,14 @@
-use crate::{ParseFault, RawCond, RawOperand, ResolveFault, parse, resolve};
+use crate::common::{SHORT_TEXT, WHOLE, bytes, show_value, table_of};
 use rx_cond::{Cond, Op};
 use rx_token::tokens;
-use rx_value::{
-    Bytes, ColType, Column, ColumnList, IndexList, Key, KeyList, NameList, Schema, Value,
-};
+use rx_value::{Bytes, Key, KeyList, NameList, Schema, Value};
+use rx_where::{ParseFault, RawCond, RawOperand, ResolveFault, parse, resolve};
 use std::alloc::{AllocError, Global};
-
-fn bytes(alloc: Global, text: &str) -> Result<Bytes, AllocError> {
-    Bytes::of(alloc, text.as_bytes())
-}
+use std::process::Abort;
 
 // The integer column `a` and the text column `Name`.
 fn two_columns(alloc: Global) -> Result<Schema, AllocError> {
-    let mut columns = ColumnList::new(alloc);
-    let whole = ColType::Whole {
-        bits: 32,
-        signed: true,
-    };
-    for (name, kind) in [("a", whole), ("Name", ColType::VarChar { chars: 9 })] {
-        columns.push(Column {
-            name: bytes(alloc, name)?,
-            kind,
-            nullable: true,
-        })?;
-    }
-    Ok(Schema {
-        table: bytes(alloc, "t")?,
-        columns,
-        indexes: IndexList::new(alloc),
-    })
+    table_of(alloc, [("a", WHOLE), ("Name", SHORT_TEXT)].as_slice())
 }
 
 fn key(alloc: Global, number: i128, text: &str) -> Result<Key, AllocError> {
@@ -111,21 +91,6 @@ fn names_and_kinds(rt: HostRuntime) -> Result<(), AllocError> {
     Ok(())
 }
 
-fn show_value(alloc: Global, shown: &mut Vec<u8>, value: &Value) -> Result<(), AllocError> {
-    match value {
-        Value::Null => shown.extend_from_slice(b"NULL"),
-        Value::Int(n) => {
-            let digits = format!(in alloc; "{n}")?;
-            shown.extend_from_slice(digits.as_bytes())
-        }
-        Value::Text(text) => {
-            shown.push(b'"')?;
-            shown.extend_from_slice(text.as_slice())?;
-            Ok(shown.push(b'"')?)
-        }
-    }
-}
-
 fn show_side(alloc: Global, shown: &mut Vec<u8>, side: &RawOperand) -> Result<(), AllocError> {
     match side {
         RawOperand::Column(name) => shown.extend_from_slice(name.as_slice()),
@@ -137,6 +102,22 @@ fn show_list(alloc: Global, shown: &mut Vec<u8>, list: &[Value]) -> Result<(), A
     for value in list {
         shown.push(b' ')?;
         show_value(alloc, shown, value)?;
+    }
+    Ok(())
+}
+
+fn show_lists(alloc: Global, shown: &mut Vec<u8>, lists: &[Key]) -> Result<(), AllocError> {
+    for list in lists {
+        show_list(alloc, shown, list.as_slice())?;
+        shown.push(b';')?;
+    }
+    Ok(())
+}
+
+fn show_names(shown: &mut Vec<u8>, names: &[Bytes]) -> Result<(), AllocError> {
+    for name in names {
+        shown.extend_from_slice(name.as_slice())?;
+        shown.push(b' ')?;
     }
     Ok(())
 }
@@ -159,15 +140,9 @@ fn show_test(alloc: Global, shown: &mut Vec<u8>, cond: &RawCond) -> Result<(), A
             show_list(alloc, shown, list.as_slice())?;
         }
         RawCond::RowMember { columns, list } => {
-            for column in columns.as_slice() {
-                shown.extend_from_slice(column.as_slice())?;
-                shown.push(b' ')?;
-            }
+            show_names(shown, columns.as_slice())?;
             shown.extend_from_slice(b"in")?;
-            for row in list.as_slice() {
-                show_list(alloc, shown, row.as_slice())?;
-                shown.push(b';')?;
-            }
+            show_lists(alloc, shown, list.as_slice())?;
         }
         RawCond::IsNull(side) => {
             show_side(alloc, shown, side)?;
@@ -229,64 +204,93 @@ fn read(alloc: Global, text: &[u8]) -> Result<Vec<u8>, AllocError> {
     Ok(shown)
 }
 
-#[test]
-fn conditions_and_their_ends(rt: HostRuntime) -> Result<(), AllocError> {
-    let alloc = rt.alloc();
-    let rows = [
-        ("a = 1", "(a Eq 1) 3"),
-        ("-1 <=> +2", "(-1 SafeEq 2) 5"),
-        ("a < 'x' = b", "(a Lt \"x\") 3"),
-        ("NULL <= `or`", "(NULL Le or) 3"),
-        ("a > b", "(a Gt b) 3"),
-        ("a >= b", "(a Ge b) 3"),
-        ("a <> b", "(a Ne b) 3"),
-        ("a != b", "(a Ne b) 3"),
-        ("a IS NULL", "(a null) 3"),
-        ("1 is not null", "(!(1 null)) 4"),
-        ("a BETWEEN 1 AND b AND c", "(&(a Ge 1)(a Le b)) 5"),
-        (
-            "a NOT BETWEEN 1 AND 2 AND c = 3",
-            "(&(!(&(a Ge 1)(a Le 2)))(c Eq 3)) 10",
-        ),
-        ("a IN (1, NULL, 'x')", "(a in 1 NULL \"x\") 9"),
-        ("2 NOT IN (-1)", "(!(2 in -1)) 7"),
-        ("a LIKE 'x%'", "(a like x%) 3"),
-        ("a NOT LIKE 'x%' GROUP BY a", "(!(a like x%)) 4"),
-        ("true OR FALSE OR NULL", "(|(T)(F)(N)) 5"),
-        ("NULL IS NULL", "(NULL null) 3"),
-        ("(a, b) IN ((1, 2), (3, NULL))", "(a b in 1 2; 3 NULL;) 19"),
-        ("(a, b) NOT IN ((1, 2))", "(!(a b in 1 2;)) 14"),
-        (
-            "a = 1 OR b = 2 AND c = 3",
-            "(|(a Eq 1)(&(b Eq 2)(c Eq 3))) 11",
-        ),
-        ("NOT a = 1 AND b = 2", "(&(!(a Eq 1))(b Eq 2)) 8"),
-        ("NOT (a = 1 AND b = 2)", "(!(&(a Eq 1)(b Eq 2))) 10"),
-        (
-            "a = 1 AND (b = 2 AND c = 3)",
-            "(&(a Eq 1)(&(b Eq 2)(c Eq 3))) 13",
-        ),
-        ("((a = 1)) AND b", "(a Eq 1) 7"),
-        (
-            "a IS NOT NULL AND b IS NULL AND",
-            "(&(!(a null))(b null)) 8",
-        ),
-        ("NULL BETWEEN", "(N) 1"),
-        ("(a, b) IN ((1, 2), (3))", "none"),
-        ("(a) IN ((1))", "none"),
-        ("(a, b) IN (1, 2)", "none"),
-        ("1 LIKE 'x'", "none"),
-        ("a IN ()", "none"),
-        ("(a = 1", "none"),
-        ("or = 1", "none"),
-        ("a", "none"),
-        ("", "none"),
-    ];
+// Each text is read as it stands beside it.
+fn are_read(rt: &impl Abort, alloc: Global, rows: &[(&str, &str)]) -> Result<(), AllocError> {
     for (text, want) in rows {
         let shown = read(alloc, text.as_bytes())?;
         assert_eq!(rt; shown.as_slice(), want.as_bytes(), "{text}");
     }
     Ok(())
+}
+
+const COMPARISONS: [(&str, &str); 8] = [
+    ("a = 1", "(a Eq 1) 3"),
+    ("-1 <=> +2", "(-1 SafeEq 2) 5"),
+    ("a < 'x' = b", "(a Lt \"x\") 3"),
+    ("NULL <= `or`", "(NULL Le or) 3"),
+    ("a > b", "(a Gt b) 3"),
+    ("a >= b", "(a Ge b) 3"),
+    ("a <> b", "(a Ne b) 3"),
+    ("a != b", "(a Ne b) 3"),
+];
+
+#[test]
+fn comparisons_and_their_ends(rt: HostRuntime) -> Result<(), AllocError> {
+    are_read(&rt, rt.alloc(), COMPARISONS.as_slice())
+}
+
+const SINGLE_TESTS: [(&str, &str); 11] = [
+    ("a IS NULL", "(a null) 3"),
+    ("1 is not null", "(!(1 null)) 4"),
+    ("a BETWEEN 1 AND b AND c", "(&(a Ge 1)(a Le b)) 5"),
+    (
+        "a NOT BETWEEN 1 AND 2 AND c = 3",
+        "(&(!(&(a Ge 1)(a Le 2)))(c Eq 3)) 10",
+    ),
+    ("a IN (1, NULL, 'x')", "(a in 1 NULL \"x\") 9"),
+    ("2 NOT IN (-1)", "(!(2 in -1)) 7"),
+    ("a LIKE 'x%'", "(a like x%) 3"),
+    ("a NOT LIKE 'x%' GROUP BY a", "(!(a like x%)) 4"),
+    ("NULL IS NULL", "(NULL null) 3"),
+    ("(a, b) IN ((1, 2), (3, NULL))", "(a b in 1 2; 3 NULL;) 19"),
+    ("(a, b) NOT IN ((1, 2))", "(!(a b in 1 2;)) 14"),
+];
+
+#[test]
+fn single_tests_and_their_ends(rt: HostRuntime) -> Result<(), AllocError> {
+    are_read(&rt, rt.alloc(), SINGLE_TESTS.as_slice())
+}
+
+const CONNECTED: [(&str, &str); 8] = [
+    ("true OR FALSE OR NULL", "(|(T)(F)(N)) 5"),
+    (
+        "a = 1 OR b = 2 AND c = 3",
+        "(|(a Eq 1)(&(b Eq 2)(c Eq 3))) 11",
+    ),
+    ("NOT a = 1 AND b = 2", "(&(!(a Eq 1))(b Eq 2)) 8"),
+    ("NOT (a = 1 AND b = 2)", "(!(&(a Eq 1)(b Eq 2))) 10"),
+    (
+        "a = 1 AND (b = 2 AND c = 3)",
+        "(&(a Eq 1)(&(b Eq 2)(c Eq 3))) 13",
+    ),
+    ("((a = 1)) AND b", "(a Eq 1) 7"),
+    (
+        "a IS NOT NULL AND b IS NULL AND",
+        "(&(!(a null))(b null)) 8",
+    ),
+    ("NULL BETWEEN", "(N) 1"),
+];
+
+#[test]
+fn conditions_and_their_ends(rt: HostRuntime) -> Result<(), AllocError> {
+    are_read(&rt, rt.alloc(), CONNECTED.as_slice())
+}
+
+const NO_CONDITIONS: [(&str, &str); 9] = [
+    ("(a, b) IN ((1, 2), (3))", "none"),
+    ("(a) IN ((1))", "none"),
+    ("(a, b) IN (1, 2)", "none"),
+    ("1 LIKE 'x'", "none"),
+    ("a IN ()", "none"),
+    ("(a = 1", "none"),
+    ("or = 1", "none"),
+    ("a", "none"),
+    ("", "none"),
+];
+
+#[test]
+fn texts_without_a_condition(rt: HostRuntime) -> Result<(), AllocError> {
+    are_read(&rt, rt.alloc(), NO_CONDITIONS.as_slice())
 }
 
 // How many tokens the condition at the front has, 0 where there is none.

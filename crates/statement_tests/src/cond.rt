@@ -1,5 +1,6 @@
-use crate::{Cond, Op, Operand, Tri, conjuncts, disjuncts, mentions, truth};
-use rx_value::{Bytes, Key, KeyList, NumberList, Row, Value};
+use crate::common::bytes;
+use rx_cond::{Cond, Op, Operand, Tri, conjuncts, disjuncts, mentions, truth};
+use rx_value::{Key, KeyList, NumberList, Row, Value};
 use std::alloc::{AllocError, Global};
 
 // NULL is the value 0 here.
@@ -34,11 +35,26 @@ fn compare_to(op: Op, column: u32, n: i128) -> Cond {
     }
 }
 
+// NULL on the left, on the right, on both sides; equal, rising and falling sides of a row with 1, 2 and NULL.
+const SIDES: [(u32, u32); 6] = [(2, 0), (0, 2), (2, 9), (0, 0), (0, 1), (1, 0)];
+
+// Whether each two sides compare so.
+fn compared(alloc: Global, op: Op, row: &Row) -> Result<Vec<Tri>, AllocError> {
+    let mut truths = Vec::new(alloc);
+    for (left, right) in SIDES {
+        let cond = Cond::Compare {
+            op,
+            left: Operand::Column(left),
+            right: Operand::Column(right),
+        };
+        truths.push(truth(&cond, row))?;
+    }
+    Ok(truths)
+}
+
 #[test]
 fn comparisons_with_null_and_in_order(rt: HostRuntime) -> Result<(), AllocError> {
     let row = row_of(rt.alloc(), [1, 2, 0].as_slice())?;
-    // NULL on the left, on the right, on both sides; equal, rising and falling sides
-    let sides = [(2, 0), (0, 2), (2, 9), (0, 0), (0, 1), (1, 0)];
     let rows = [
         (Op::Eq, [Tri::N, Tri::N, Tri::N, Tri::T, Tri::F, Tri::F]),
         (Op::SafeEq, [Tri::F, Tri::F, Tri::T, Tri::T, Tri::F, Tri::F]),
@@ -49,59 +65,70 @@ fn comparisons_with_null_and_in_order(rt: HostRuntime) -> Result<(), AllocError>
         (Op::Ne, [Tri::N, Tri::N, Tri::N, Tri::F, Tri::T, Tri::T]),
     ];
     for (op, wanted) in rows {
-        for ((left, right), want) in sides.iter().zip(wanted.iter()) {
-            let cond = Cond::Compare {
-                op,
-                left: Operand::Column(*left),
-                right: Operand::Column(*right),
-            };
-            assert_eq!(rt; truth(&cond, &row), *want, "{op:?} at {left} and {right}");
-        }
+        let truths = compared(rt.alloc(), op, &row)?;
+        assert_eq!(rt; truths.as_slice(), wanted.as_slice(), "{op:?}");
+    }
+    Ok(())
+}
+
+const TRUTHS: [Tri; 3] = [Tri::T, Tri::F, Tri::N];
+
+// A truth and each of the three.
+fn all_of_two(alloc: Global, first: Tri) -> Result<Vec<Tri>, AllocError> {
+    let row = Row::new(alloc);
+    let mut truths = Vec::new(alloc);
+    for second in TRUTHS {
+        let items = vec![in alloc; Cond::Truth(first), Cond::Truth(second)]?;
+        truths.push(truth(&Cond::Conj(items), &row))?;
+    }
+    Ok(truths)
+}
+
+// A truth or each of the three.
+fn any_of_two(alloc: Global, first: Tri) -> Result<Vec<Tri>, AllocError> {
+    let row = Row::new(alloc);
+    let mut truths = Vec::new(alloc);
+    for second in TRUTHS {
+        let items = vec![in alloc; Cond::Truth(first), Cond::Truth(second)]?;
+        truths.push(truth(&Cond::Disj(items), &row))?;
+    }
+    Ok(truths)
+}
+
+#[test]
+fn negations(rt: HostRuntime) -> Result<(), AllocError> {
+    let row = Row::new(rt.alloc());
+    for (inner, not) in [(Tri::T, Tri::F), (Tri::F, Tri::T), (Tri::N, Tri::N)] {
+        let cond = Cond::Neg(Box::new(rt.alloc(), Cond::Truth(inner))?);
+        assert_eq!(rt; truth(&cond, &row), not, "not {inner:?}");
     }
     Ok(())
 }
 
 #[test]
-fn conjunctions_disjunctions_and_negations(rt: HostRuntime) -> Result<(), AllocError> {
-    let row = Row::new(rt.alloc());
-    let truths = [Tri::T, Tri::F, Tri::N];
+fn conjunctions(rt: HostRuntime) -> Result<(), AllocError> {
     let rows = [
-        (
-            Tri::T,
-            [Tri::T, Tri::F, Tri::N],
-            [Tri::T, Tri::T, Tri::T],
-            Tri::F,
-        ),
-        (
-            Tri::F,
-            [Tri::F, Tri::F, Tri::F],
-            [Tri::T, Tri::F, Tri::N],
-            Tri::T,
-        ),
-        (
-            Tri::N,
-            [Tri::N, Tri::F, Tri::N],
-            [Tri::T, Tri::N, Tri::N],
-            Tri::N,
-        ),
+        (Tri::T, [Tri::T, Tri::F, Tri::N]),
+        (Tri::F, [Tri::F, Tri::F, Tri::F]),
+        (Tri::N, [Tri::N, Tri::F, Tri::N]),
     ];
-    for (first, all, any, not) in rows {
-        let cond = Cond::Neg(Box::new(rt.alloc(), Cond::Truth(first))?);
-        assert_eq!(rt; truth(&cond, &row), not, "not {first:?}");
-        for (second, (all, any)) in truths.iter().zip(all.iter().zip(any.iter())) {
-            let items = vec![in rt.alloc(); Cond::Truth(first), Cond::Truth(*second)]?;
-            assert_eq!(rt;
-                truth(&Cond::Conj(items), &row),
-                *all,
-                "{first:?} and {second:?}"
-            );
-            let items = vec![in rt.alloc(); Cond::Truth(first), Cond::Truth(*second)]?;
-            assert_eq!(rt;
-                truth(&Cond::Disj(items), &row),
-                *any,
-                "{first:?} or {second:?}"
-            );
-        }
+    for (first, all) in rows {
+        let truths = all_of_two(rt.alloc(), first)?;
+        assert_eq!(rt; truths.as_slice(), all.as_slice(), "{first:?} and");
+    }
+    Ok(())
+}
+
+#[test]
+fn disjunctions(rt: HostRuntime) -> Result<(), AllocError> {
+    let rows = [
+        (Tri::T, [Tri::T, Tri::T, Tri::T]),
+        (Tri::F, [Tri::T, Tri::F, Tri::N]),
+        (Tri::N, [Tri::T, Tri::N, Tri::N]),
+    ];
+    for (first, any) in rows {
+        let truths = any_of_two(rt.alloc(), first)?;
+        assert_eq!(rt; truths.as_slice(), any.as_slice(), "{first:?} or");
     }
     Ok(())
 }
@@ -152,13 +179,13 @@ fn rows_in_lists_of_rows(rt: HostRuntime) -> Result<(), AllocError> {
 #[test]
 fn texts_like_a_pattern(rt: HostRuntime) -> Result<(), AllocError> {
     let mut row = Row::new(rt.alloc());
-    row.push(Value::Text(Bytes::of(rt.alloc(), "abxd".as_bytes())?))?;
+    row.push(Value::Text(bytes(rt.alloc(), "abxd")?))?;
     row.push(Value::Null)?;
     let rows = [("ab_d%", 0, Tri::T), ("abc%", 0, Tri::F), ("%", 1, Tri::N)];
     for (pattern, column, want) in rows {
         let cond = Cond::Like {
             column,
-            pattern: Bytes::of(rt.alloc(), pattern.as_bytes())?,
+            pattern: bytes(rt.alloc(), pattern)?,
         };
         assert_eq!(rt; truth(&cond, &row), want, "{pattern}");
     }

@@ -1,13 +1,10 @@
-use crate::{
+use crate::common::show;
+use rx_ddl::{
     Argument, Attribute, ColumnDefinition, CreateDefinition, CreateFault, CreateTable,
     KeyDefinition, KeyPart, TableOption, read_create, write_create,
 };
 use rx_value::Bytes;
 use std::alloc::{AllocError, Global};
-
-fn show(text: &mut Vec<u8>, piece: &[u8]) -> Result<(), AllocError> {
-    text.extend_from_slice(piece)
-}
 
 fn show_argument(alloc: Global, text: &mut Vec<u8>, argument: &Argument) -> Result<(), AllocError> {
     show(text, b" #")?;
@@ -126,51 +123,53 @@ fn what_show_create_table_writes_is_read(rt: HostRuntime) -> Result<(), AllocErr
     Ok(())
 }
 
+// The items of a statement, its end, and what is read of both.
+const ITEMS: [(&str, &str, &str); 11] = [
+    ("a int", ")", "a int"),
+    ("`a``b` INT ( 3 , 'x' )", ");", "a`b INT #3 #x"),
+    (
+        "a x unsigned ZEROFILL NULL auto_increment",
+        ")",
+        "a x unsigned zerofill null other",
+    ),
+    ("a x DEFAULT NOT NULL", ")", "a x other null"),
+    (
+        "a x DEFAULT -1 DEFAULT + 1 DEFAULT 'q' DEFAULT 7",
+        ")",
+        "a x other other other other",
+    ),
+    (
+        "a x COMMENT 'it''s' CHARACTER SET set COLLATE by",
+        ")",
+        "a x other set:set collate:by",
+    ),
+    (
+        "a x, PRIMARY KEY (a(10) DESC, b ASC)",
+        ")",
+        "a x | Primary PRIMARY a:10 down b",
+    ),
+    (
+        "unique index `key` (a) USING btree COMMENT 'c' using HASH, a x",
+        ")",
+        "Unique key a by btree by HASH | a x",
+    ),
+    (
+        "a x, FULLTEXT KEY f (a), SPATIAL INDEX s (a), INDEX i (a)",
+        ")",
+        "a x | Fulltext f a | Spatial s a | Plain i a",
+    ),
+    ("`key` int, `primary` int", ")", "key int | primary int"),
+    (
+        "a x",
+        ") , ENGINE = x, b c select='d' e=5;",
+        "a x | ENGINE=x | b c select=d | e=5",
+    ),
+];
+
 #[test]
 fn each_item_and_option_is_read(rt: HostRuntime) -> Result<(), AllocError> {
     let alloc = rt.alloc();
-    let rows = [
-        ("a int", ")", "a int"),
-        ("`a``b` INT ( 3 , 'x' )", ");", "a`b INT #3 #x"),
-        (
-            "a x unsigned ZEROFILL NULL auto_increment",
-            ")",
-            "a x unsigned zerofill null other",
-        ),
-        ("a x DEFAULT NOT NULL", ")", "a x other null"),
-        (
-            "a x DEFAULT -1 DEFAULT + 1 DEFAULT 'q' DEFAULT 7",
-            ")",
-            "a x other other other other",
-        ),
-        (
-            "a x COMMENT 'it''s' CHARACTER SET set COLLATE by",
-            ")",
-            "a x other set:set collate:by",
-        ),
-        (
-            "a x, PRIMARY KEY (a(10) DESC, b ASC)",
-            ")",
-            "a x | Primary PRIMARY a:10 down b",
-        ),
-        (
-            "unique index `key` (a) USING btree COMMENT 'c' using HASH, a x",
-            ")",
-            "Unique key a by btree by HASH | a x",
-        ),
-        (
-            "a x, FULLTEXT KEY f (a), SPATIAL INDEX s (a), INDEX i (a)",
-            ")",
-            "a x | Fulltext f a | Spatial s a | Plain i a",
-        ),
-        ("`key` int, `primary` int", ")", "key int | primary int"),
-        (
-            "a x",
-            ") , ENGINE = x, b c select='d' e=5;",
-            "a x | ENGINE=x | b c select=d | e=5",
-        ),
-    ];
-    for (items, end, want) in rows {
+    for (items, end, want) in ITEMS {
         let text = format!(in alloc; "/* c */ create TABLE t ({items}{end} -- end")?;
         let line = read(alloc, text.as_bytes())?;
         let want = format!(in alloc; "t | {want}")?;
@@ -179,43 +178,44 @@ fn each_item_and_option_is_read(rt: HostRuntime) -> Result<(), AllocError> {
     Ok(())
 }
 
+const REFUSED: [&str; 31] = [
+    "",
+    "CREATE TABLE t (a int",
+    "CREATE TABLE t ()",
+    "CREATE TABLE t (KEY k (a))",
+    "CREATE TABLE t (a int);;",
+    "CREATE TABLE t (a int) x",
+    "CREATE TABLE t (a int,)",
+    "CREATE TABLE t (a int b int)",
+    "CREATE TABLE key (a int)",
+    "CREATE TABLE t (select int)",
+    "CREATE TABLE t (unique int)",
+    "CREATE TABLE t (a `int`)",
+    "CREATE TABLE t (a int())",
+    "CREATE TABLE t (a int(-1))",
+    "CREATE TABLE t (a int NOT)",
+    "CREATE TABLE t (a int DEFAULT)",
+    "CREATE TABLE t (a int COMMENT c)",
+    "CREATE TABLE t (a int CHARACTER utf8mb4)",
+    "CREATE TABLE t (a int, PRIMARY KEY p (a))",
+    "CREATE TABLE t (a int, PRIMARY INDEX (a))",
+    "CREATE TABLE t (a int, UNIQUE u (a))",
+    "CREATE TABLE t (a int, KEY (a))",
+    "CREATE TABLE t (a int, KEY k ())",
+    "CREATE TABLE t (a int, KEY k (a('1')))",
+    "CREATE TABLE t (a int) ENGINE=",
+    "CREATE TABLE t (a int) ENGINE=`x`",
+    "CREATE TABLE t (a int) =x",
+    "CREATE TABLE t (a int),, ENGINE=x",
+    "CREATE TABLE t (a int), ;",
+    "CREATE TABLE t (a int) ENGINE=x @",
+    "CREATE TABLE t (a int) /*! x=y */",
+];
+
 #[test]
 fn other_texts_are_refused(rt: HostRuntime) -> Result<(), AllocError> {
     let alloc = rt.alloc();
-    let rows = [
-        "",
-        "CREATE TABLE t (a int",
-        "CREATE TABLE t ()",
-        "CREATE TABLE t (KEY k (a))",
-        "CREATE TABLE t (a int);;",
-        "CREATE TABLE t (a int) x",
-        "CREATE TABLE t (a int,)",
-        "CREATE TABLE t (a int b int)",
-        "CREATE TABLE key (a int)",
-        "CREATE TABLE t (select int)",
-        "CREATE TABLE t (unique int)",
-        "CREATE TABLE t (a `int`)",
-        "CREATE TABLE t (a int())",
-        "CREATE TABLE t (a int(-1))",
-        "CREATE TABLE t (a int NOT)",
-        "CREATE TABLE t (a int DEFAULT)",
-        "CREATE TABLE t (a int COMMENT c)",
-        "CREATE TABLE t (a int CHARACTER utf8mb4)",
-        "CREATE TABLE t (a int, PRIMARY KEY p (a))",
-        "CREATE TABLE t (a int, PRIMARY INDEX (a))",
-        "CREATE TABLE t (a int, UNIQUE u (a))",
-        "CREATE TABLE t (a int, KEY (a))",
-        "CREATE TABLE t (a int, KEY k ())",
-        "CREATE TABLE t (a int, KEY k (a('1')))",
-        "CREATE TABLE t (a int) ENGINE=",
-        "CREATE TABLE t (a int) ENGINE=`x`",
-        "CREATE TABLE t (a int) =x",
-        "CREATE TABLE t (a int),, ENGINE=x",
-        "CREATE TABLE t (a int), ;",
-        "CREATE TABLE t (a int) ENGINE=x @",
-        "CREATE TABLE t (a int) /*! x=y */",
-    ];
-    for text in rows {
+    for text in REFUSED {
         let line = read(alloc, text.as_bytes())?;
         assert_eq!(rt; line.as_slice(), b"no".as_slice(), "{text}");
     }

@@ -1,13 +1,11 @@
 -- One item more, and the end of the items, where each stands behind what may stand before it.
 use Rattle.std.proofs.Common.{◌≡◌, ℕ, zero, suc, ◌<◌, ◌≤◌, List, [], ◌∷◌, ◌++◌, length, Option, Some, None, refl, sym, ap, ◌∙◌, append_assoc, arith}
-use Rattle.std.proofs.lemmas.List.{append-nil, flat_map_more}
-use Rattle.std.specs.Option.{option_and_then, option_to_list}
-use Rattle.std.specs.List.{flat_map}
+use Rattle.std.proofs.lemmas.List.{append-nil}
+use Rattle.std.specs.Option.{option_and_then}
 use Rattle.rx_token.specs.declared.kinds.Token.{Token}
 use Rattle.rx_reading.specs.Reading.{Reader, more_at, next_of, items_at}
 use Rattle.rx_reading.proofs.More.{gathered, whole}
-use Rattle.rx_ddl.specs.Many.{many_at}
-use Rattle.rx_ddl.specs.Keys.{words_found}
+use Rattle.rx_reading.specs.Many.{many_at}
 
 -- What is read so far and what is still to be read are the target.
 pub record Going {A : Type 0} (after : List Token → Option (List Token)) (p : Reader A) (target : Option (List A × List Token)) (items : List A) (rest : List Token) : Type 0 where
@@ -56,11 +54,3 @@ pub over : {A : Type 0} (after : List Token → Option (List Token)) (p : Reader
 over {A} after p target items here ts so_far is none =
     ap (λ (xs : List A). whole (xs, here)) (sym (append-nil items))
     ∙ ap whole (sym (ends_at after p items here so_far.fuel (none ∙ ap (option_and_then p) is))) ∙ so_far.same
-
--- the words among what is found
-pub words_of : (words : List (List ℕ)) (found : List (Option (List ℕ))) (here : List Token) (read : Option (List (Option (List ℕ)) × List Token)) → words ≡ flat_map option_to_list found → whole (found, here) ≡ read → whole (words, here) ≡ option_and_then words_found read
-words_of words found here read e is = rw e (ap (option_and_then words_found) is)
-
-pub word_more : (words : List (List ℕ)) (found : List (Option (List ℕ))) (next : Option (List ℕ)) (new : List (List ℕ)) → words ≡ flat_map option_to_list found → new ≡ words ++ option_to_list next → new ≡ flat_map option_to_list (found ++ next ∷ [])
-word_more words found next new e is =
-    is ∙ ap (λ (ws : List (List ℕ)). ws ++ option_to_list next) e ∙ flat_map_more option_to_list [] found next

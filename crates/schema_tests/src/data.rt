@@ -1,7 +1,7 @@
 ghost use Rattle.std.specs.Prelude.{◌≤◌, All, length, IfOk};
-ghost use Rattle.rx_data.specs.Fields.{IsSized};
+ghost use Rattle.rx_value.specs.Shape.{IsSized};
 
-use crate::{DataFault, read_rows};
+use rx_data::{DataFault, read_rows};
 use rx_value::{Bytes, ColType, Column, ColumnList, IndexList, Row, RowList, Schema, Value};
 use std::alloc::{AllocError, Global};
 use std::test::Fail;

@@ -1,4 +1,4 @@
-use crate::{
+use rx_outside::{
     FileFault, Files, MemFiles, MemSink, Sink, SureFiles, SureSink, read_whole, write_all,
 };
 use std::test::Fail;

@@ -1,11 +1,8 @@
-use crate::{SchemaFault, read_schema, write_schema};
+use crate::common::show;
+use rx_schema::{SchemaFault, read_schema, write_schema};
 use rx_value::{ColType, Column, Index, Schema};
 use std::alloc::{AllocError, Global};
 use std::test::Fail;
-
-fn show(shown: &mut Vec<u8>, piece: &[u8]) -> Result<(), AllocError> {
-    shown.extend_from_slice(piece)
-}
 
 // `a int32`, `a uint8?` where it may be NULL, `s text5`.
 fn show_column(alloc: Global, shown: &mut Vec<u8>, column: &Column) -> Result<(), AllocError> {
@@ -96,142 +93,161 @@ const ORDERS: &str = "CREATE TABLE `orders` (
 ) ENGINE=InnoDB AUTO_INCREMENT=5001 DEFAULT CHARSET=utf8mb4 COLLATE=utf8mb4_0900_ai_ci
 ";
 
+// Texts, and the tables that they declare.
+const TABLES: [(&str, &str); 9] = [
+    (
+        ORDERS,
+        "orders: id int32; customer uint32; day int32?; state text12; amount int64; \
+         PRIMARY!!(0 ) cd(1 2 ) st(3 ) ",
+    ),
+    (
+        "create table T (a TinyInt(1) unsigned unsigned, B smallint(5) NULL NOT NULL, `c``d` mediumint NOT NULL NULL \
+         comment 'x' default -1, e int default current_timestamp, unique index U (E, b asc) using btree comment 'y', \
+         index k (`C``D`)) engine=x, row_format = 1 comment='z';",
+        "T: a uint8?; B int16; c`d int24?; e int32?; U!(3 1 ) k(2 ) ",
+    ),
+    (
+        "create table t (a int, b int, key k (a), unique key u (b, a), primary key (B, A))",
+        "t: a int32; b int32; PRIMARY!!(1 0 ) k(0 ) u!(1 0 ) ",
+    ),
+    (
+        "create table t (a int null, primary key (a))",
+        "t: a int32; PRIMARY!!(0 ) ",
+    ),
+    (
+        "create table t (a varchar(255) collate UTF8MB4_0900_BIN character set UTF8MB4, b varchar(0) NOT NULL)",
+        "t: a text255?; b text0; ",
+    ),
+    (
+        "create table t (s varchar(1) collate x collate utf8mb4_0900_bin) collate=y default character set=utf8mb4",
+        "t: s text1?; ",
+    ),
+    (
+        "create table t (s varchar(1)) collate=x collate='utf8mb4_0900_bin' charset=latin1, default charset=\"UTF8MB4\"",
+        "t: s text1?; ",
+    ),
+    (
+        "create table t (a int) collate=utf8mb4_0900_ai_ci charset=latin1",
+        "t: a int32?; ",
+    ),
+    (
+        "create table t (a varchar(1)) character=x set=y",
+        "t: a text1?; ",
+    ),
+];
+
 #[test]
 fn tables(rt: HostRuntime) -> Result<(), Fail> {
-    let rows = [
-        (
-            ORDERS,
-            "orders: id int32; customer uint32; day int32?; state text12; amount int64; \
-             PRIMARY!!(0 ) cd(1 2 ) st(3 ) ",
-        ),
-        (
-            "create table T (a TinyInt(1) unsigned unsigned, B smallint(5) NULL NOT NULL, `c``d` mediumint NOT NULL NULL \
-             comment 'x' default -1, e int default current_timestamp, unique index U (E, b asc) using btree comment 'y', \
-             index k (`C``D`)) engine=x, row_format = 1 comment='z';",
-            "T: a uint8?; B int16; c`d int24?; e int32?; U!(3 1 ) k(2 ) ",
-        ),
-        (
-            "create table t (a int, b int, key k (a), unique key u (b, a), primary key (B, A))",
-            "t: a int32; b int32; PRIMARY!!(1 0 ) k(0 ) u!(1 0 ) ",
-        ),
-        (
-            "create table t (a int null, primary key (a))",
-            "t: a int32; PRIMARY!!(0 ) ",
-        ),
-        (
-            "create table t (a varchar(255) collate UTF8MB4_0900_BIN character set UTF8MB4, b varchar(0) NOT NULL)",
-            "t: a text255?; b text0; ",
-        ),
-        (
-            "create table t (s varchar(1) collate x collate utf8mb4_0900_bin) collate=y default character set=utf8mb4",
-            "t: s text1?; ",
-        ),
-        (
-            "create table t (s varchar(1)) collate=x collate='utf8mb4_0900_bin' charset=latin1, default charset=\"UTF8MB4\"",
-            "t: s text1?; ",
-        ),
-        (
-            "create table t (a int) collate=utf8mb4_0900_ai_ci charset=latin1",
-            "t: a int32?; ",
-        ),
-        (
-            "create table t (a varchar(1)) character=x set=y",
-            "t: a text1?; ",
-        ),
-    ];
-    for (text, want) in rows {
+    for (text, want) in TABLES {
         let found = shown(rt.alloc(), text.as_bytes())?;
         assert_eq!(rt; found.as_slice(), want.as_bytes(), "at {text:?}");
     }
     Ok(())
 }
 
+// What follows `create table t`, and the refusal.
+const UNFIT: [(&str, &str); 24] = [
+    ("()", "not in grammar"),
+    ("(key k (a))", "not in grammar"),
+    ("(a int) ?", "not in grammar"),
+    (
+        "(s varchar(5)) COLLATE=utf8mb4_0900_ai_ci",
+        "not in profile: Collation",
+    ),
+    (
+        "(s varchar(5) collate x) COLLATE=utf8mb4_0900_bin",
+        "not in profile: Collation",
+    ),
+    (
+        "(s varchar(5)) charset=latin1",
+        "not in profile: CharacterSet",
+    ),
+    (
+        "(s varchar(5)) default character set=latin1",
+        "not in profile: CharacterSet",
+    ),
+    (
+        "(s varchar(5) character set latin1 collate x)",
+        "not in profile: Collation",
+    ),
+    ("(a datetime)", "not in profile: ColumnType"),
+    ("(a varchar(5) unsigned)", "not in profile: ColumnType"),
+    ("(a varchar)", "not in profile: Length"),
+    ("(a varchar(256) zerofill)", "not in profile: Length"),
+    ("(a varchar('5'))", "not in profile: Length"),
+    ("(a varchar(5, 5))", "not in profile: Length"),
+    ("(a int zerofill)", "not in profile: Zerofill"),
+    (
+        "(a varchar(5) collate x zerofill)",
+        "not in profile: Zerofill",
+    ),
+    ("(a int, fulltext key k (a))", "not in profile: KeyKind"),
+    ("(a int, spatial key k (a(1)))", "not in profile: KeyKind"),
+    (
+        "(a int, key k (a) using btree using hash)",
+        "not in profile: KeyKind",
+    ),
+    (
+        "(a int, key k (a desc) using hash)",
+        "not in profile: Descending",
+    ),
+    ("(a int, key k (a DESC))", "not in profile: Descending"),
+    ("(a int, key k (a(1) desc))", "not in profile: Prefix"),
+    (
+        "(a int, key k (a desc, a(1)), b date)",
+        "not in profile: Descending",
+    ),
+    ("(a date, key k (a desc))", "not in profile: ColumnType"),
+];
+
+// What follows `create table t`, and the refusal.
+const WRONG_NAMES: [(&str, &str); 11] = [
+    ("(a int, A int)", "duplicate: A"),
+    ("(a int, b int, c int, B int, A int)", "duplicate: B"),
+    (
+        "(a int, key k (a), key j (a, A), key K (a))",
+        "duplicate: K",
+    ),
+    ("(a int, key k (z, a, A))", "duplicate: A"),
+    (
+        "(a int, key j (a), primary key (a), primary key (a))",
+        "duplicate: PRIMARY",
+    ),
+    ("(a int, key `primary` (a))", "duplicate: PRIMARY"),
+    (
+        "(a int, key j (a), key Primary (a), primary key (a), key J (a))",
+        "duplicate: PRIMARY",
+    ),
+    (
+        "(a int, key j (a), key J (a), key Primary (a))",
+        "duplicate: J",
+    ),
+    ("(a int, KEY k (z))", "unknown column: z"),
+    ("(a int, key k (a), key j (A, Y, z))", "unknown column: Y"),
+    ("(a int, key k (z), key j (a, a))", "duplicate: a"),
+];
+
+// What the table of these items declares, or the refusal.
+fn shown_table(alloc: Global, items: &str) -> Result<Vec<u8>, AllocError> {
+    let mut text = Vec::from_slice(alloc, b"create table t ")?;
+    show(&mut text, items.as_bytes())?;
+    shown(alloc, text.as_slice())
+}
+
 #[test]
-fn refusals(rt: HostRuntime) -> Result<(), Fail> {
-    let rows = [
-        ("create table t ()", "not in grammar"),
-        ("create table t (key k (a))", "not in grammar"),
-        ("create table t (a int) ?", "not in grammar"),
-        (
-            "(s varchar(5)) COLLATE=utf8mb4_0900_ai_ci",
-            "not in profile: Collation",
-        ),
-        (
-            "(s varchar(5) collate x) COLLATE=utf8mb4_0900_bin",
-            "not in profile: Collation",
-        ),
-        (
-            "(s varchar(5)) charset=latin1",
-            "not in profile: CharacterSet",
-        ),
-        (
-            "(s varchar(5)) default character set=latin1",
-            "not in profile: CharacterSet",
-        ),
-        (
-            "(s varchar(5) character set latin1 collate x)",
-            "not in profile: Collation",
-        ),
-        ("(a datetime)", "not in profile: ColumnType"),
-        ("(a varchar(5) unsigned)", "not in profile: ColumnType"),
-        ("(a varchar)", "not in profile: Length"),
-        ("(a varchar(256) zerofill)", "not in profile: Length"),
-        ("(a varchar('5'))", "not in profile: Length"),
-        ("(a varchar(5, 5))", "not in profile: Length"),
-        ("(a int zerofill)", "not in profile: Zerofill"),
-        (
-            "(a varchar(5) collate x zerofill)",
-            "not in profile: Zerofill",
-        ),
-        ("(a int, fulltext key k (a))", "not in profile: KeyKind"),
-        ("(a int, spatial key k (a(1)))", "not in profile: KeyKind"),
-        (
-            "(a int, key k (a) using btree using hash)",
-            "not in profile: KeyKind",
-        ),
-        (
-            "(a int, key k (a desc) using hash)",
-            "not in profile: Descending",
-        ),
-        ("(a int, key k (a DESC))", "not in profile: Descending"),
-        ("(a int, key k (a(1) desc))", "not in profile: Prefix"),
-        (
-            "(a int, key k (a desc, a(1)), b date)",
-            "not in profile: Descending",
-        ),
-        ("(a date, key k (a desc))", "not in profile: ColumnType"),
-        ("(a int, A int)", "duplicate: A"),
-        ("(a int, b int, c int, B int, A int)", "duplicate: B"),
-        (
-            "(a int, key k (a), key j (a, A), key K (a))",
-            "duplicate: K",
-        ),
-        ("(a int, key k (z, a, A))", "duplicate: A"),
-        (
-            "(a int, key j (a), primary key (a), primary key (a))",
-            "duplicate: PRIMARY",
-        ),
-        ("(a int, key `primary` (a))", "duplicate: PRIMARY"),
-        (
-            "(a int, key j (a), key Primary (a), primary key (a), key J (a))",
-            "duplicate: PRIMARY",
-        ),
-        (
-            "(a int, key j (a), key J (a), key Primary (a))",
-            "duplicate: J",
-        ),
-        ("(a int, KEY k (z))", "unknown column: z"),
-        ("(a int, key k (a), key j (A, Y, z))", "unknown column: Y"),
-        ("(a int, key k (z), key j (a, a))", "duplicate: a"),
-    ];
-    for (text, want) in rows {
-        let mut whole = Vec::new(rt.alloc());
-        if text.starts_with('(') {
-            show(&mut whole, b"create table t ")?;
-        }
-        show(&mut whole, text.as_bytes())?;
-        let found = shown(rt.alloc(), whole.as_slice())?;
-        assert_eq!(rt; found.as_slice(), want.as_bytes(), "at {text:?}");
+fn refusals_of_what_is_unfit(rt: HostRuntime) -> Result<(), Fail> {
+    for (items, want) in UNFIT {
+        let found = shown_table(rt.alloc(), items)?;
+        assert_eq!(rt; found.as_slice(), want.as_bytes(), "at {items:?}");
+    }
+    Ok(())
+}
+
+#[test]
+fn refusals_of_names(rt: HostRuntime) -> Result<(), Fail> {
+    for (items, want) in WRONG_NAMES {
+        let found = shown_table(rt.alloc(), items)?;
+        assert_eq!(rt; found.as_slice(), want.as_bytes(), "at {items:?}");
     }
     Ok(())
 }

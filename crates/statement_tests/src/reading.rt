@@ -1,4 +1,4 @@
-use crate::{after_sign, after_word, is_end, name_at, text_at, word_at};
+use rx_reading::{after_sign, after_word, is_end, name_at, text_at, word_at};
 use rx_token::{Scanned, signs, tokens};
 use std::alloc::{AllocError, Global};
 
