@@ -1,7 +1,7 @@
 //! Graphs made as either of two halves.
 
 ghost use Rattle.std.specs.Prelude.{◌≡◌, ◌<◌, ◌≤◌, ◌-◌, ◌+◌, ◌^◌, ◌∷◌, List, [], IfOk, OnOk, OnErr};
-ghost use Rattle.rx_graph.specs.Graph.{Steps, IsHeld, AreCanonical, handle_count};
+ghost use Rattle.rx_graph.specs.Graph.{Steps, IsHeld, handle_count};
 
 use crate::faults::Fault;
 use crate::points::{LIMIT, Range, point, tell_end};
@@ -34,12 +34,10 @@ fn joined(
 ) -> Result<Handle, Fault>
     requires held { IsHeld arena.old (g ∷ h ∷ []) }
     requires few { handle_count arena.old < 2 ^ 32 }
-    requires canonical { AreCanonical arena.old }
     ensures ok { IfOk result (λ r. Steps arena.old arena.new (g ∷ h ∷ []) (r ∷ [])) }
     ensures err { OnErr result (Steps arena.old arena.new (g ∷ h ∷ []) []) }
     ensures count { OnOk result (handle_count arena.new + 1 ≡ handle_count arena.old) }
     ensures err_count { OnErr result (handle_count arena.new + 2 ≡ handle_count arena.old) }
-    ensures canonical { AreCanonical arena.new }
 {
     let (first, second) = (arena.tree_size(&g), arena.tree_size(&h));
     let whole = match or(alloc, arena, g, h, LIMIT) {
@@ -63,12 +61,10 @@ fn graph_of(
     range: Range,
 ) -> Result<Handle, Fault>
     requires few { handle_count arena.old + range.count < 2 ^ 32 - 1 }
-    requires canonical { AreCanonical arena.old }
     ensures ok { IfOk result (λ r. Steps arena.old arena.new [] (r ∷ [])) }
     ensures err { OnErr result (Steps arena.old arena.new [] []) }
     ensures count { OnOk result (handle_count arena.new ≡ handle_count arena.old + 1) }
     ensures err_count { OnErr result (handle_count arena.new ≡ handle_count arena.old) }
-    ensures canonical { AreCanonical arena.new }
 {
     let Range { from, count } = range;
     if count <= 1 {

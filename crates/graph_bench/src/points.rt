@@ -1,7 +1,7 @@
 //! Points by number, and the graph of one.
 
 ghost use Rattle.std.specs.Prelude.{◌≡◌, ◌<◌, ◌-◌, ◌+◌, ◌^◌, ◌∷◌, List, [], IfOk, OnOk, OnErr};
-ghost use Rattle.rx_graph.specs.Graph.{Steps, AreCanonical, handle_count};
+ghost use Rattle.rx_graph.specs.Graph.{Steps, handle_count};
 
 use crate::faults::Fault;
 use rx_graph::{Arena, Handle};
@@ -50,12 +50,10 @@ fn one_value(alloc: Global, n: i128) -> Result<SpanList, AllocError> {
 /// NotAccepted where the arena doesn't take the span of the point, NoMemory where memory is wanting.
 pub fn point(alloc: Global, arena: &mut Arena, number: u64) -> Result<Handle, Fault>
     requires few { handle_count arena.old < 2 ^ 32 - 1 }
-    requires canonical { AreCanonical arena.old }
     ensures ok { IfOk result (λ h. Steps arena.old arena.new [] (h ∷ [])) }
     ensures err { OnErr result (Steps arena.old arena.new [] []) }
     ensures count { OnOk result (handle_count arena.new ≡ handle_count arena.old + 1) }
     ensures err_count { OnErr result (handle_count arena.new ≡ handle_count arena.old) }
-    ensures canonical { AreCanonical arena.new }
 {
     let Ok(spans) = one_value(alloc, value_of(number)) else {
         return Err(Fault::NoMemory);

@@ -1,7 +1,7 @@
 //! Graphs made by laying one point after the other over nothing.
 
 ghost use Rattle.std.specs.Prelude.{◌≡◌, ℕ, ◌<◌, ◌≤◌, ◌-◌, ◌+◌, ◌*◌, ◌^◌, ◌∷◌, List, [], max, IfOk, OnOk, OnErr};
-ghost use Rattle.rx_graph.specs.Graph.{Steps, IsHeld, AreCanonical, handle_count};
+ghost use Rattle.rx_graph.specs.Graph.{Steps, IsHeld, handle_count};
 
 use crate::faults::Fault;
 use crate::points::{LIMIT, Range, point, tell_end};
@@ -102,11 +102,9 @@ fn with_point(
 ) -> Result<Handle, Fault>
     requires held { IsHeld arena.old (g ∷ []) }
     requires few { handle_count arena.old < 2 ^ 32 - 2 }
-    requires canonical { AreCanonical arena.old }
     ensures ok { IfOk result (λ r. Steps arena.old arena.new (g ∷ []) (r ∷ [])) }
     ensures err { OnErr result (Steps arena.old arena.new (g ∷ []) []) }
     ensures count { OnOk result (handle_count arena.new ≡ handle_count arena.old) }
-    ensures canonical { AreCanonical arena.new }
 {
     let before = arena.live();
     let items = arena.tree_size(&g);
@@ -146,11 +144,9 @@ fn with_points(
 ) -> Result<Handle, Fault>
     requires held { IsHeld arena.old (g ∷ []) }
     requires few { handle_count arena.old < 2 ^ 32 - 2 }
-    requires canonical { AreCanonical arena.old }
     ensures ok { IfOk result (λ r. Steps arena.old arena.new (g ∷ []) (r ∷ [])) }
     ensures err { OnErr result (Steps arena.old arena.new (g ∷ []) []) }
     ensures count { OnOk result (handle_count arena.new ≡ handle_count arena.old) }
-    ensures canonical { AreCanonical arena.new }
 {
     let Range { from, count } = range;
     if count <= 1 {

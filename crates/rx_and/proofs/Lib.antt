@@ -1,6 +1,6 @@
 pub mod Apart
 pub mod Rising
-pub mod Seams
+pub mod Placed
 pub mod Meets
 pub mod Roots
 pub mod Hanging

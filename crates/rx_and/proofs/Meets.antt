@@ -18,9 +18,10 @@ use Rattle.rx_level.specs.Step.{Owns, Step, Lent, level_of}
 use Rattle.rx_level.proofs.Steps.{held_there, level_of-parts}
 use Rattle.rx_level.proofs.Lending.{lent_after}
 use Rattle.rx_level.proofs.Turning.{kept_root}
-use Rattle.rx_and.specs.Apart.{AreApart}
+use Rattle.rx_weld.specs.Apart.{AreApart}
 use Rattle.rx_and.specs.Rising.{AreRising}
-use Rattle.rx_and.proofs.Apart.{across_are_apart, both_are_apart, glue_size_first}
+use Rattle.rx_weld.proofs.Apart.{glue_size_first}
+use Rattle.rx_and.proofs.Apart.{across_are_apart, both_are_apart}
 use Rattle.rx_and.proofs.Rising.{Keeps}
 
 -- the parts of a level are smaller

@@ -1,5 +1,5 @@
 -- What two graphs have in common, over the arena's map.
-use Rattle.std.proofs.Common.{◌≡◌, ◌&&◌, ◌+◌, ◌-◌, ◌^◌, ◌<◌, ◌≤◌, ℕ, List, [], ◌∷◌, Option, Some, None, arith, refl, ap, ap₂, sym, ◌∙◌, subst}
+use Rattle.std.proofs.Common.{◌≡◌, ◌&&◌, ◌+◌, ℕ, List, [], ◌∷◌, Option, Some, arith, refl, ap, ap₂, sym, ◌∙◌, subst}
 use Rattle.slab.specs.Slab.{Slab, get}
 use Rattle.rx_value.specs.declared.order.End.{End}
 use Rattle.rx_tree.specs.Tree.{Level, Tree}
@@ -9,26 +9,16 @@ use Rattle.rx_tree.specs.Canonical.{IsCanonical}
 use Rattle.rx_tree.specs.Meet.{both, tree_and, tree_of_items}
 use Rattle.rx_tree.proofs.Intersection.{and_canonical, and_holds}
 use Rattle.rx_level.specs.declared.nodes.Node.{Node}
-use Rattle.rx_level.specs.Store.{leads, total_held, roots_in}
+use Rattle.rx_level.specs.Store.{leads}
 use Rattle.rx_level.specs.Step.{Owns, Step, level_of}
 use Rattle.rx_level.proofs.Steps.{held_there}
-use Rattle.rx_level.proofs.Totals.{totals}
 use Rattle.rx_graph.specs.declared.handles.Root.{Root}
-use Rattle.rx_graph.specs.declared.handles.Root.TheVariants.{Everything, Nothing, Items}
-use Rattle.rx_graph.specs.Graph.{Graph, Steps, IsHeld, AreCanonical, handle_count, times, tree_in}
+use Rattle.rx_graph.specs.declared.handles.Root.TheVariants.{Items}
+use Rattle.rx_graph.specs.Graph.{Graph, Steps, IsHeld, AreCanonical, handle_count, tree_in}
 use Rattle.rx_graph.proofs.Steps.{canonical_given}
+use Rattle.rx_graph.proofs.Back.{times_first, times_second}
 use Rattle.rx_graph.proofs.Amounts.{counted}
 use Rattle.rx_and.proofs.Meets.{HasItems, has_items}
-
-pub times_first : (g h : Root) → 1 ≤ times g (g ∷ h ∷ [])
-times_first Everything h = omega arith
-times_first Nothing h = omega arith
-times_first (Items k) h = grind arith
-
-pub times_second : (g h : Root) → 1 ≤ times h (g ∷ h ∷ [])
-times_second g Everything = omega arith
-times_second g Nothing = omega arith
-times_second g (Items k) = grind arith
 
 -- what two canonical trees have in common is given in their place
 pub given_and : (old new : Graph) (g h r : Root) → IsHeld old (g ∷ h ∷ []) → Steps old new (g ∷ h ∷ []) (r ∷ []) → tree_in new r ≡ tree_and (tree_in old g) (tree_in old h) → AreCanonical old → AreCanonical new
@@ -43,19 +33,6 @@ pub keys_and : (old new : Graph) (g h r : Root) → IsHeld old (g ∷ h ∷ []) 
 keys_and old new g h r held is was ps =
     ap (λ t. holds t ps) is
     ∙ and_holds old.nullable (tree_in old g) (tree_in old h) ps (was g (omega (arith, held g, times_first g h))) (was h (omega (arith, held h, times_second g h)))
-
--- where both are spent and none is given there is room for one
-pub few_left : (old mid new : Graph) (taken levels : Slab Node) (g h : ℕ) (o : Option ℕ) → handle_count old < 2 ^ 32
-    → taken ≡ old.store → mid ≡ record old { store = mid.store } → new ≡ record mid { store = levels }
-    → Step taken levels (Some g ∷ Some h ∷ []) (o ∷ []) → o ≡ None
-    → handle_count new < 2 ^ 32 - 1
-few_left old mid new taken levels g h o few is_taken is_mid is_new step absent =
-    let all : new.all ≡ old.all = ap (λ x. x.all) is_new ∙ ap (λ x. x.all) is_mid in
-    let none : new.none ≡ old.none = ap (λ x. x.none) is_new ∙ ap (λ x. x.none) is_mid in
-    let stored : total_held new.store ≡ total_held levels = ap (λ x. total_held x.store) is_new in
-    let before : total_held taken ≡ total_held old.store = ap total_held is_taken in
-    let empty : roots_in (o ∷ []) ≡ 0 = ap (λ x. roots_in (x ∷ [])) absent in
-    omega (arith, few, all, none, stored, before, empty, totals taken levels (Some g ∷ Some h ∷ []) (o ∷ []) (λ m. step.held m))
 
 items_is : (l : Level) → HasItems l → items l ≡ tree_of_items l
 items_is l has = rw has.is refl
@@ -76,6 +53,17 @@ some_tree old new mid taken levels g h key o r is_taken is_new owns step is is_r
     ∙ items_is (level_of levels (Some key)) has
     ∙ ap tree_of_items (ap (level_of levels) (sym is) ∙ level)
     ∙ ap (λ s. tree_of_items (both (level_of s (Some g)) (level_of s (Some h)))) is_taken
+
+-- and canonical
+pub some_canonical : (old : Graph) (taken levels : Slab Node) (g h key : ℕ) (o : Option ℕ) → taken ≡ old.store → o ≡ Some key → IsHeld old (Items g ∷ Items h ∷ []) → Owns taken (Some g ∷ Some h ∷ [])
+    → Step taken levels (Some g ∷ Some h ∷ []) (o ∷ [])
+    → level_of levels o ≡ both (level_of taken (Some g)) (level_of taken (Some h)) → AreCanonical old → IsCanonical old.nullable (items (level_of levels o))
+some_canonical old taken levels g h key o is_taken is held owns step level was =
+    let new : Graph = record old { store = levels } in
+    let tree = some_tree old new old taken levels g h key o (Items key) is_taken refl owns step is refl level in
+    subst (λ (t : Tree). IsCanonical old.nullable t) (sym (ap (λ x. items (level_of levels x)) is ∙ tree))
+    (and_canonical old.nullable (tree_in old (Items g)) (tree_in old (Items h))
+    (was (Items g) (omega (arith, held (Items g), times_first (Items g) (Items h)))) (was (Items h) (omega (arith, held (Items h), times_second (Items g) (Items h)))))
 
 -- the same of two roots with items
 pub given_items_and : (old new : Graph) (g h r : Root) (i j : ℕ) → g ≡ Items i → h ≡ Items j → IsHeld old (g ∷ h ∷ []) → Steps old new (Items i ∷ Items j ∷ []) (r ∷ []) → tree_in new r ≡ tree_and (tree_in old (Items i)) (tree_in old (Items j)) → AreCanonical old → AreCanonical new

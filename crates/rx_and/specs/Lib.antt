@@ -1,3 +1,2 @@
-pub mod Apart
 pub mod Rising
 pub mod Before

@@ -12,7 +12,7 @@ ghost use Rattle.rx_graph.specs.Graph.{Steps, IsHeld, AreCanonical, handle_count
 ghost use Rattle.rx_and.specs.Before.{IsBefore};
 
 use crate::levels::level_and;
-use rx_graph::{Arena, GraphFault, Handle, Root};
+use rx_graph::{Arena, GraphFault, Handle, Root, second_within};
 use std::alloc::Global;
 
 // What two graphs with items have in common. Both are spent in every case.
@@ -25,7 +25,6 @@ fn items_and(
 ) -> Result<Handle, GraphFault>
     requires held { IsHeld arena.old (items_root g ∷ items_root h ∷ []) }
     requires few { handle_count arena.old < 2 ^ 32 }
-    requires canonical { AreCanonical arena.old }
     ensures ok { IfOk result (λ r. Steps arena.old arena.new (items_root g ∷ items_root h ∷ []) (r ∷ [])) }
     ensures tree { IfOk result (λ r. tree_in arena.new r ≡ tree_and (tree_in arena.old (items_root g)) (tree_in arena.old (items_root h))) }
     ensures small { IfOk result (λ r. size (tree_in arena.new r) ≤ limit) }
@@ -36,56 +35,19 @@ fn items_and(
 {
     arena.sound();
     let mut levels = arena.take_levels();
-    let made = level_and(alloc, &mut levels, arena.parts(), g, h, limit);
-    arena.put_levels(levels);
-    let whole = match made {
-        Ok(whole) => whole,
-        Err(fault) => return Err(fault),
-    };
-    match whole {
-        Some(key) => Ok(Handle::of(Root::Items(key))),
-        None => Ok(arena.nothing()),
-    }
-}
-
-// A graph, unless its tree has more items than the limit: then it is spent.
-fn within(arena: &mut Arena, h: Handle, limit: u64) -> Result<Handle, GraphFault>
-    requires held { IsHeld arena.old (h ∷ []) }
-    ensures ok { IfOk result (λ r. Steps arena.old arena.new (h ∷ []) (r ∷ [])) }
-    ensures tree { IfOk result (λ r. tree_in arena.new r ≡ tree_in arena.old h) }
-    ensures small { IfOk result (λ r. size (tree_in arena.new r) ≤ limit) }
-    ensures over { OnErr result (limit < size (tree_in arena.old h)) }
-    ensures err { OnErr result (Steps arena.old arena.new (h ∷ []) []) }
-    ensures same { IfOk result (λ r. (r ≡ h) × (arena.new ≡ arena.old)) }
-    ensures count { OnOk result (handle_count arena.new ≡ handle_count arena.old) }
-    ensures err_count { OnErr result (handle_count arena.new + 1 ≡ handle_count arena.old) }
-{
-    if arena.tree_size(&h) > limit {
-        arena.release(h);
-        return Err(GraphFault::OverLimit);
-    }
-    Ok(h)
-}
-
-// The second graph, unless its tree has more items than the limit. The first is spent, and the second too
-// where it isn't given.
-fn second(arena: &mut Arena, spare: Handle, h: Handle, limit: u64) -> Result<Handle, GraphFault>
-    requires held { IsHeld arena.old (spare ∷ h ∷ []) }
-    ensures ok { IfOk result (λ r. Steps arena.old arena.new (spare ∷ h ∷ []) (r ∷ [])) }
-    ensures tree { IfOk result (λ r. tree_in arena.new r ≡ tree_in arena.old h) }
-    ensures small { IfOk result (λ r. size (tree_in arena.new r) ≤ limit) }
-    ensures over { OnErr result (limit < size (tree_in arena.old h)) }
-    ensures err { OnErr result (Steps arena.old arena.new (spare ∷ h ∷ []) []) }
-    ensures root { IfOk result (λ r. r ≡ h) }
-    ensures live { OnOk result (slab_len arena.new.store ≤ slab_len arena.old.store) }
-    ensures store { link_of spare ≡ None → OnOk result (arena.new.store ≡ arena.old.store) }
-    ensures count { OnOk result (handle_count arena.new + 1 ≡ handle_count arena.old) }
-    ensures err_count { OnErr result (handle_count arena.new + 2 ≡ handle_count arena.old) }
-{
-    arena.release(spare);
-    match within(arena, h, limit) {
-        Ok(whole) => Ok(whole),
-        Err(fault) => Err(fault),
+    match level_and(alloc, &mut levels, arena.parts(), g, h, limit) {
+        Ok(Some(key)) => {
+            arena.put_levels(levels);
+            Ok(Handle::of(Root::Items(key)))
+        }
+        Ok(None) => {
+            arena.put_levels(levels);
+            Ok(arena.nothing())
+        }
+        Err(fault) => {
+            arena.put_levels(levels);
+            Err(fault)
+        }
     }
 }
 
@@ -107,7 +69,6 @@ pub fn and(
 ) -> Result<Handle, GraphFault>
     requires held { IsHeld arena.old (g ∷ h ∷ []) }
     requires few { handle_count arena.old < 2 ^ 32 }
-    requires canonical { AreCanonical arena.old }
     ensures ok { IfOk result (λ r. Steps arena.old arena.new (g ∷ h ∷ []) (r ∷ [])) }
     ensures tree { IfOk result (λ r. tree_in arena.new r ≡ tree_and (tree_in arena.old g) (tree_in arena.old h)) }
     ensures keys { IfOk result (λ r. (ps : List end_of_span) → holds (tree_in arena.new r) ps ≡ (holds (tree_in arena.old g) ps && holds (tree_in arena.old h) ps)) }
@@ -120,6 +81,7 @@ pub fn and(
     ensures err_count { OnErr result (handle_count arena.new + 2 ≡ handle_count arena.old) }
     ensures canonical { AreCanonical arena.new }
 {
+    arena.sound();
     match (g.root(), h.root()) {
         (Root::Items(first), Root::Items(next)) => {
             let _ = g.into_root();
@@ -129,19 +91,19 @@ pub fn and(
                 Err(fault) => Err(fault),
             }
         }
-        (Root::Everything, _) => match second(arena, g, h, limit) {
+        (Root::Everything, _) => match second_within(arena, g, h, limit) {
             Ok(whole) => Ok(whole),
             Err(fault) => Err(fault),
         },
-        (Root::Nothing, _) => match second(arena, h, g, limit) {
+        (Root::Nothing, _) => match second_within(arena, h, g, limit) {
             Ok(whole) => Ok(whole),
             Err(fault) => Err(fault),
         },
-        (_, Root::Everything) => match second(arena, h, g, limit) {
+        (_, Root::Everything) => match second_within(arena, h, g, limit) {
             Ok(whole) => Ok(whole),
             Err(fault) => Err(fault),
         },
-        (_, Root::Nothing) => match second(arena, g, h, limit) {
+        (_, Root::Nothing) => match second_within(arena, g, h, limit) {
             Ok(whole) => Ok(whole),
             Err(fault) => Err(fault),
         },

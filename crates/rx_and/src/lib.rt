@@ -5,9 +5,5 @@ mod gluing;
 mod graphs;
 mod levels;
 mod meeting;
-#[cfg(test)]
-mod scale;
-#[cfg(test)]
-mod tests;
 
 pub use graphs::and;

@@ -3,7 +3,7 @@
 ghost use Rattle.std.specs.Prelude.{◌<◌, ◌-◌, ◌^◌, ◌++◌, ℕ, List, [], ◌∷◌, IfOk, OnErr};
 ghost use Rattle.rx_tree.specs.Points.{AreSpansAt};
 ghost use Rattle.rx_graph.specs.declared.handles.Root.{Root};
-ghost use Rattle.rx_graph.specs.Graph.{IsHeld, AreCanonical, handle_count};
+ghost use Rattle.rx_graph.specs.Graph.{IsHeld, handle_count};
 ghost use Rattle.rx_calls.specs.Operations.{Operation, without, without_two};
 ghost use Rattle.rx_calls.specs.Runs.{Does, StandAt, StandsAt, with_handles};
 
@@ -58,7 +58,6 @@ fn and(
 ) -> Result<Handle, GraphFault>
     requires held { IsHeld arena.old (g ∷ h ∷ []) }
     requires few { handle_count arena.old < 2 ^ 32 }
-    requires canonical { AreCanonical arena.old }
     ensures ok { IfOk result (λ r. (roots : List Root) (i j : ℕ) → StandAt i j roots g h → Does (Operation.meet i j) (with_handles arena.old roots) (with_handles arena.new (without_two i j roots ++ r ∷ []))) }
     ensures err { OnErr result ((roots : List Root) (i j : ℕ) → StandAt i j roots g h → Does (Operation.refused_meet i j) (with_handles arena.old roots) (with_handles arena.new (without_two i j roots))) }
 {
@@ -74,7 +73,6 @@ fn or(
 ) -> Result<Handle, GraphFault>
     requires held { IsHeld arena.old (g ∷ h ∷ []) }
     requires few { handle_count arena.old < 2 ^ 32 }
-    requires canonical { AreCanonical arena.old }
     ensures ok { IfOk result (λ r. (roots : List Root) (i j : ℕ) → StandAt i j roots g h → Does (Operation.unite i j) (with_handles arena.old roots) (with_handles arena.new (without_two i j roots ++ r ∷ []))) }
     ensures err { OnErr result ((roots : List Root) (i j : ℕ) → StandAt i j roots g h → Does (Operation.refused_unite i j) (with_handles arena.old roots) (with_handles arena.new (without_two i j roots))) }
 {

@@ -4,7 +4,5 @@
 
 mod calls;
 mod laws;
-#[cfg(test)]
-mod tests;
 
 pub use laws::handles_have_the_trees_of_sets;

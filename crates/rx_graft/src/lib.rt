@@ -7,8 +7,6 @@ mod grafts;
 mod hanging;
 mod laws;
 mod memory;
-#[cfg(test)]
-mod tests;
 
 pub use chains::chain_of;
 pub use grafts::graft;

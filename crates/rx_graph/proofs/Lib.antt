@@ -1,4 +1,5 @@
-pub mod Steps
 pub mod Amounts
+pub mod Back
 pub mod Listed
 pub mod Same
+pub mod Steps

@@ -33,11 +33,13 @@ pub struct Arena {
 }
 
 impl Model for Arena {
-    ghost use Rattle.rx_graph.specs.Graph.{Graph};
+    ghost use Rattle.rx_graph.specs.Graph.{Graph, AreCanonical};
 
     ghost Value = { Graph };
 
     ghost view = { λ a. record { nullable = a.nullable; store = a.levels; all = a.all; none = a.none } };
+
+    ghost invariant = { λ a. AreCanonical (record { nullable = a.nullable; store = a.levels; all = a.all; none = a.none }) };
 }
 
 impl Arena {
@@ -65,7 +67,7 @@ impl Arena {
         ensures store { self.new.store ≡ self.old.store }
         ensures step { Steps self.old self.new [] (result ∷ []) }
         ensures count { handle_count self.new ≡ handle_count self.old + 1 }
-        ensures canonical { AreCanonical self.old → AreCanonical self.new }
+        ensures canonical { AreCanonical self.new }
     {
         self.all += 1;
         Handle::of(Root::Everything)
@@ -78,7 +80,7 @@ impl Arena {
         ensures store { self.new.store ≡ self.old.store }
         ensures step { Steps self.old self.new [] (result ∷ []) }
         ensures count { handle_count self.new ≡ handle_count self.old + 1 }
-        ensures canonical { AreCanonical self.old → AreCanonical self.new }
+        ensures canonical { AreCanonical self.new }
     {
         self.none += 1;
         Handle::of(Root::Nothing)
@@ -91,7 +93,7 @@ impl Arena {
         ensures root { result ≡ h.now }
         ensures step { Steps self.old self.new [] (result ∷ []) }
         ensures count { handle_count self.new ≡ handle_count self.old + 1 }
-        ensures canonical { AreCanonical self.old → AreCanonical self.new }
+        ensures canonical { AreCanonical self.new }
     {
         match h.root() {
             Root::Everything => self.everything(),
@@ -110,7 +112,7 @@ impl Arena {
         ensures count { handle_count self.new + 1 ≡ handle_count self.old }
         ensures live { slab_len self.new.store ≤ slab_len self.old.store }
         ensures without_items { link_of h ≡ None → self.new.store ≡ self.old.store }
-        ensures canonical { AreCanonical self.old → AreCanonical self.new }
+        ensures canonical { AreCanonical self.new }
     {
         match h.into_root() {
             Root::Everything => self.all -= 1,
@@ -122,10 +124,11 @@ impl Arena {
         }
     }
 
-    /// That each item is reached from a handle, that an item stands at one depth of a tree, however often,
-    /// that the items of a tree are those that its link leads to, and that the store of levels is sound, on
-    /// which a crate that works on levels builds.
+    /// That the tree of each handle is canonical, that each item is reached from a handle, that an item stands
+    /// at one depth of a tree, however often, that the items of a tree are those that its link leads to, and
+    /// that the store of levels is sound, on which a crate that works on levels builds.
     pub fn sound(&self)
+        ensures canonical { AreCanonical self.now }
         ensures sound { IsSound self.now.store [] }
         ensures reached { (m : ℕ) → IsSome (get self.now.store m) → IsReached self.now.store m }
         ensures one_depth { (r : Option ℕ) → IsAtOneDepth (tree_of self.now.store r) }
@@ -188,7 +191,7 @@ impl Arena {
         ensures err { OnErr result (Steps self.old self.new [] []) }
         ensures count { OnOk result (handle_count self.new ≡ handle_count self.old + 1) }
         ensures err_count { OnErr result (handle_count self.new ≡ handle_count self.old) }
-        ensures canonical { AreCanonical self.old → AreCanonical self.new }
+        ensures canonical { AreCanonical self.new }
     {
         if spans.as_slice().is_empty() {
             return Ok(self.nothing());
@@ -219,7 +222,7 @@ impl Arena {
         requires g { IsHeld self.now (g.now ∷ []) }
         requires h { IsHeld self.now (h.now ∷ []) }
         ensures trees { IsTrue result ↔ (tree_in self.now g.now ≡ tree_in self.now h.now) }
-        ensures keys { AreCanonical self.now → IsTrue result ↔ HoldSame self.now.nullable (tree_in self.now g.now) (tree_in self.now h.now) }
+        ensures keys { IsTrue result ↔ HoldSame self.now.nullable (tree_in self.now g.now) (tree_in self.now h.now) }
     {
         match (g.root(), h.root()) {
             (Root::Everything, Root::Everything) => true,
@@ -255,8 +258,10 @@ impl Arena {
         mem::replace(&mut self.levels, Levels::new(self.alloc))
     }
 
-    /// Puts back the levels that were taken. Roots of levels that they hold are handles again.
+    /// Puts back the levels that were taken. Roots of levels that they hold are handles again, and their
+    /// trees are canonical.
     pub fn put_levels(&mut self, levels: Levels)
+        requires { AreCanonical (record self.old { store = levels }) }
         ensures { self.new ≡ record self.old { store = levels } }
     {
         self.levels = levels;

@@ -4,14 +4,12 @@
 mod arena;
 mod faults;
 mod handles;
+mod limits;
 mod points;
 mod rising;
-#[cfg(test)]
-mod scale;
-#[cfg(test)]
-mod tests;
 mod wholes;
 
 pub use arena::Arena;
 pub use faults::GraphFault;
 pub use handles::{Handle, Root};
+pub use limits::{second_within, within};

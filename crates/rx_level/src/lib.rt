@@ -9,8 +9,6 @@ mod marking;
 mod nodes;
 mod reading;
 mod spans;
-#[cfg(test)]
-mod tests;
 mod trees;
 mod uses;
 mod wholes;

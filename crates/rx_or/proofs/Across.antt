@@ -23,7 +23,8 @@ use Rattle.rx_tree.proofs.Layers.{IsNew, IsLeft, lay_law}
 use Rattle.rx_tree.proofs.Either.{either_law}
 use Rattle.rx_tree.proofs.Joining.{parted, holds-join}
 use Rattle.rx_tree.proofs.Unique.{same_levels}
-use Rattle.rx_or.proofs.Bools.{and_parts, or_right, or_swap, or_inner, no_gap, spans_over}
+use Rattle.rx_tree.proofs.Bools.{and_parts, or_swap, no_gap, spans_over}
+use Rattle.rx_or.proofs.Bools.{or_right, or_inner}
 use Rattle.rx_or.specs.Below.{union_below, ahead, past, in_parts}
 use Rattle.rx_or.specs.Cover.{AreInOrder}
 use Rattle.rx_or.proofs.Covered.{placed_order}

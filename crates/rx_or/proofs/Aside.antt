@@ -18,7 +18,8 @@ use Rattle.rx_tree.specs.Union.{between, overlaid, lay}
 use Rattle.rx_tree.proofs.Welding.{weld_apart}
 use Rattle.rx_or.specs.Cover.{AreInOrder}
 use Rattle.rx_or.specs.Below.{past}
-use Rattle.rx_or.proofs.Order.{first_low, right_order, differs_weld, weld_join}
+use Rattle.rx_weld.proofs.Apart.{differs_weld, weld_join}
+use Rattle.rx_or.proofs.Order.{first_low, right_order}
 
 -- an end below another isn't the same
 pub apart_ends : (a b : End) → IsBelow a b → a ≡ b → ⊥

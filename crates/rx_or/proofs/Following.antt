@@ -23,6 +23,8 @@ use Rattle.rx_level.proofs.Turning.{kept_root}
 use Rattle.rx_or.specs.Below.{union_below, ahead, past, in_parts, ArePlacedBelow}
 use Rattle.rx_or.proofs.Laid.{lay_join, placed_left, placed_from, placed_item, placed_right, placed_below, lay_placed, lay_all_placed, below_some, parts_order, alone_span}
 use Rattle.rx_or.specs.Cover.{AreInOrder}
+use Rattle.rx_weld.specs.Apart.{AreApart}
+use Rattle.rx_or.proofs.Order.{order_apart}
 use Rattle.rx_or.proofs.Aside.{lay_left, lay_right}
 use Rattle.rx_or.proofs.Across.{lay_across, ahead_placed, front_alone}
 use Rattle.rx_or.proofs.Welded.{between_same}
@@ -322,11 +324,11 @@ fronted a b parts i top left right front owns step alone placed level =
       placed = subst (λ (x : Level). ArePlaced parts (item top.span x (level_of b right))) (sym u.level) (subst (λ (x : Level). ArePlaced parts (item top.span (level_of a top.child) x)) (sym r.level) on);
     }
 
--- and stays in order while the rest of the item is laid
-pub front_order : (a b d : Slab Node) (parts : List Bool) (i top : Item) (right front : Option ℕ) (g : List (Option ℕ)) → IsFronted a b parts i top right front → Step b d (i.child ∷ top.child ∷ right ∷ []) g → AreInOrder (level_of d front)
-front_order a b d parts i top right front g x step =
+-- and its neighbours stay apart while the rest of the item is laid
+pub front_apart : (a b d : Slab Node) (parts : List Bool) (i top : Item) (right front : Option ℕ) (g : List (Option ℕ)) → IsFronted a b parts i top right front → Step b d (i.child ∷ top.child ∷ right ∷ []) g → AreApart (level_of d front)
+front_apart a b d parts i top right front g x step =
     let f = kept_root b d _ _ step front (λ m. omega (arith, x.held m)) in
-    subst AreInOrder (sym f.level) x.order
+    order_apart (level_of d front) (subst AreInOrder (sym f.level) x.order)
 
 -- both are glued together
 pub across_level : (a b d e : Slab Node) (parts : List Bool) (i top : Item) (left right front back whole : Option ℕ) → IsFronted a b parts i top right front → Step b d (i.child ∷ top.child ∷ right ∷ []) (back ∷ [])

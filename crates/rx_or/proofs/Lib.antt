@@ -8,6 +8,5 @@ pub mod Laid
 pub mod Aside
 pub mod Bools
 pub mod Across
-pub mod Seams
 pub mod Following
 pub mod Roots

@@ -1,5 +1,5 @@
 -- Items in order, on either side of one of them.
-use Rattle.std.proofs.Common.{◌≡◌, ◌&&◌, Bool, true, false, cond, refl, ap, sym, ◌∙◌}
+use Rattle.std.proofs.Common.{◌≡◌, Bool, true, false, cond, refl, ap}
 use Rattle.rx_value.specs.declared.order.End.{End}
 use Rattle.rx_value.specs.declared.order.Span.{Span}
 use Rattle.rx_value.specs.Order.{is_at_most}
@@ -8,9 +8,8 @@ use Rattle.rx_value.proofs.Ends.{at_most-trans, below-at_most, at_most-below}
 use Rattle.rx_tree.specs.Tree.{Level}
 use Rattle.rx_tree.specs.Tree.Level.{end, item}
 use Rattle.rx_tree.specs.Canonical.{BeginsFrom, Differs}
-use Rattle.rx_tree.specs.Weld.{is_touching, is_same_level, span_over, weld, glue}
-use Rattle.rx_tree.proofs.Welding.{weld_apart, glue-weld, same_end-itself, same_level-itself}
 use Rattle.rx_tree.specs.Join.{join_level}
+use Rattle.rx_weld.specs.Apart.{AreApart}
 use Rattle.rx_or.specs.Cover.{before, after, AreInOrder}
 
 -- an end before the first of some items is before a later one
@@ -35,37 +34,14 @@ pub left_order : (l m : Level) → AreInOrder (join_level l m) → AreInOrder l
 left_order end m order = tt
 left_order (item u c l) m order = (order.0, left_begins u.hi l m order.1, left_differs u c l m order.2, left_order l m order.3)
 
-differs_by : (s : Span) (c : Level) (t : Span) (d : Level) (u : Span) (e x : Level) (b : Bool) → (s.hi ≡ t.lo → c ≡ d → ⊥) → Differs s c (cond b (item (span_over t u) d x) (item t d (item u e x)))
-differs_by s c t d u e x true differs = differs
-differs_by s c t d u e x false differs = differs
+-- neighbours in order can't be one item
+pub order_apart : (l : Level) → AreInOrder l → AreApart l
+order_apart end order = tt
+order_apart (item s c rest) order = (order.2, order_apart rest order.3)
 
--- an item differs from one that is welded before others where it differs from that one
-pub differs_weld : (s : Span) (c : Level) (t : Span) (d x : Level) → (s.hi ≡ t.lo → c ≡ d → ⊥) → Differs s c (weld t d x)
-differs_weld s c t d end differs = differs
-differs_weld s c t d (item u e x) differs = differs_by s c t d u e x (is_touching t u && is_same_level d e) differs
-
--- two touching items with the same child are one
-pub weld_twice : (lo e hi : End) (c x : Level) → weld (record { lo = lo; hi = e }) c (weld (record { lo = e; hi = hi }) c x) ≡ weld (record { lo = lo; hi = hi }) c x
-weld_twice lo e hi c x =
-    let s : Span = record { lo = lo; hi = e } in
-    let t : Span = record { lo = e; hi = hi } in
-    let one : weld s c (item t c end) ≡ item (record { lo = lo; hi = hi }) c end = rw (same_end-itself e, same_level-itself c) refl in
-    sym (glue-weld s c (item t c end) x) ∙ ap (λ l. glue l x) one
-
--- an item of a level, with another upper end, before others
+-- an item of a level, with another upper end
 abbrev pub till : Span → End → Span
 till i hi = record { lo = i.lo; hi = hi }
-
-differs_join : (s : Span) (c l : Level) (i : Span) (d r : Level) (hi : End) (y : Level) → Differs s c (join_level l (item i d r)) → Differs s c (join_level l (weld (till i hi) d y))
-differs_join s c end i d r hi y differs = differs_weld s c (till i hi) d y differs
-differs_join s c (item u e l) i d r hi y differs = differs
-
--- what is glued behind an item of a level leaves those before it
-pub glue_join : (l : Level) (i : Span) (d r : Level) (hi : End) (b y : Level) → AreInOrder (join_level l (item i d r)) → glue (join_level l (item (till i hi) d b)) y ≡ join_level l (weld (till i hi) d (glue b y))
-glue_join end i d r hi b y order = refl
-glue_join (item u c l) i d r hi b y order =
-    ap (weld u c) (glue_join l i d r hi b y order.3)
-    ∙ weld_apart u c (join_level l (weld (till i hi) d (glue b y))) (differs_join u c l i d r hi (glue b y) order.2)
 
 -- Before an end that an item doesn't pass: the items up to it, and of the others what is before the end.
 pub before_keep : (e : End) (l : Level) (i : Span) (d r : Level) → AreInOrder (join_level l (item i d r)) → IsAtMost i.hi e → before e (join_level l (item i d r)) ≡ join_level l (item i d (before e r))
@@ -120,12 +96,3 @@ after_keep e end i d r order low =
     rw (up, low) refl
 after_keep e (item u c l) i d r order low =
     join_by e u c (after e (join_level l (item i d r))) (after e l) l (item i d r) (is_at_most u.hi e) (is_at_most e u.lo) (after_keep e l i d r order.3 low)
-
-weld_join_by : (s t : Span) (c d x m : Level) (b : Bool) → cond b (item (span_over s t) c (join_level x m)) (item s c (item t d (join_level x m))) ≡ join_level (cond b (item (span_over s t) c x) (item s c (item t d x))) m
-weld_join_by s t c d x m true = refl
-weld_join_by s t c d x m false = refl
-
--- what is welded before some items leaves one behind that differs from it
-pub weld_join : (s : Span) (c l : Level) (i : Span) (d r : Level) → Differs s c (item i d r) → weld s c (join_level l (item i d r)) ≡ join_level (weld s c l) (item i d r)
-weld_join s c end i d r differs = weld_apart s c (item i d r) differs
-weld_join s c (item t e l) i d r differs = weld_join_by s t c e l (item i d r) (is_touching s t && is_same_level c e)

@@ -13,7 +13,8 @@ use Rattle.rx_tree.proofs.Welding.{weld_apart, same_end-itself}
 use Rattle.rx_tree.specs.Join.{join_level}
 use Rattle.rx_level.proofs.Steps.{join_assoc}
 use Rattle.rx_or.specs.Cover.{before, after, AreInOrder, IsCutBefore, IsCutAfter}
-use Rattle.rx_or.proofs.Order.{till, right_order, differs_weld, weld_twice, glue_join, before_keep, before_drop, before_cut, nothing_before, after_drop, after_cut, after_keep, weld_join}
+use Rattle.rx_weld.proofs.Apart.{differs_weld, weld_twice, weld_join, glue_join}
+use Rattle.rx_or.proofs.Order.{till, order_apart, right_order, before_keep, before_drop, before_cut, nothing_before, after_drop, after_cut, after_keep}
 
 differs_before : (e hi : End) (s : Span) (c t' : Level) (t : Span) (d y : Level) (a b : Bool) → (s.hi ≡ t.lo → c ≡ d → ⊥) → Differs s c y → Differs s c (glue (cond a (item t d t') (cond b end (item (record { lo = t.lo; hi = e }) d end))) y)
 differs_before e hi s c t' t d y true b first second = differs_weld s c t d (glue t' y) first
@@ -36,7 +37,7 @@ apart_before e l i d r kept lo order low differs cut = record {
       let y = weld (record { lo = e; hi = hi }) end x in
       let next : Differs i d (glue (before e r) y) = differs_rest e hi i d r y (right_order l i d r order).2 (differs_weld i d (record { lo = e; hi = hi }) end x differs) in
       ap (λ b. glue b y) (before_keep e l i d r order low)
-      ∙ glue_join l i d r i.hi (before e r) y order
+      ∙ glue_join l i d r i (before e r) y refl (order_apart (join_level l (item i d r)) order)
       ∙ ap (join_level l) (weld_apart i d (glue (before e r) y) next)
       ∙ ap (λ b. join_level l (item i d b)) (cut.joins hi x)
       ∙ sym (join_assoc l (item i d kept) (weld (record { lo = lo; hi = hi }) end x));
@@ -54,7 +55,7 @@ across_before e l i d r order low high differs = record {
   joins = λ hi x.
       let y = weld (record { lo = e; hi = hi }) end x in
       ap (λ b. glue b y) (before_cut e l i d r order low high)
-      ∙ glue_join l i d r e end y order
+      ∙ glue_join l i d r (till i e) end y refl (order_apart (join_level l (item i d r)) order)
       ∙ ap (join_level l) (weld_apart (till i e) d y (differs_weld (till i e) d (record { lo = e; hi = hi }) end x (λ touch. differs)))
       ∙ sym (join_assoc l (item (till i e) d end) y);
 }
@@ -74,7 +75,7 @@ joined_before e l i d r order low high is = record {
   joins = λ hi x.
       let y = weld (record { lo = e; hi = hi }) end x in
       ap (λ b. glue b y) (joined_by e l i d r (is_at_most i.hi e) refl order low high)
-      ∙ glue_join l i d r e end y order
+      ∙ glue_join l i d r (till i e) end y refl (order_apart (join_level l (item i d r)) order)
       ∙ ap (λ c. join_level l (weld (till i e) c y)) is
       ∙ ap (join_level l) (weld_twice i.lo e hi end x);
 }

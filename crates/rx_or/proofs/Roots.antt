@@ -1,5 +1,5 @@
 -- Either of two graphs, over the arena's map.
-use Rattle.std.proofs.Common.{◌≡◌, ◌||◌, ◌-◌, ◌^◌, ◌<◌, ◌≤◌, ℕ, Bool, true, false, cond, List, [], ◌∷◌, Option, Some, None, arith, refl, ap, ap₂, sym, ◌∙◌, subst}
+use Rattle.std.proofs.Common.{◌≡◌, ◌||◌, ℕ, Bool, true, false, cond, List, [], ◌∷◌, Option, Some, None, arith, refl, ap, ap₂, sym, ◌∙◌, subst}
 use Rattle.slab.specs.Slab.{Slab}
 use Rattle.rx_value.specs.declared.order.End.{End}
 use Rattle.rx_tree.specs.Tree.{Level, Tree, level_size, size}
@@ -10,25 +10,14 @@ use Rattle.rx_tree.specs.Canonical.{ArePlaced, IsCanonical}
 use Rattle.rx_tree.specs.Union.{is_all, lay_all, either_child, tree_or}
 use Rattle.rx_tree.proofs.Either.{or_canonical, or_holds}
 use Rattle.rx_level.specs.declared.nodes.Node.{Node}
-use Rattle.rx_level.specs.Store.{total_held, roots_in}
 use Rattle.rx_level.specs.Step.{Owns, Step, level_of}
-use Rattle.rx_level.proofs.Totals.{totals}
 use Rattle.rx_graph.specs.declared.handles.Root.{Root}
-use Rattle.rx_graph.specs.declared.handles.Root.TheVariants.{Everything, Nothing, Items}
-use Rattle.rx_graph.specs.Graph.{Graph, Steps, IsHeld, AreCanonical, handle_count, times, tree_in}
+use Rattle.rx_graph.specs.declared.handles.Root.TheVariants.{Items}
+use Rattle.rx_graph.specs.Graph.{Graph, Steps, IsHeld, AreCanonical, tree_in}
 use Rattle.rx_graph.proofs.Steps.{canonical_given}
+use Rattle.rx_graph.proofs.Back.{times_first, times_second}
 use Rattle.rx_or.specs.Below.{union_below, unless_all}
 use Rattle.rx_or.proofs.Opened.{some_level}
-
-times_first : (g h : Root) → 1 ≤ times g (g ∷ h ∷ [])
-times_first Everything h = omega arith
-times_first Nothing h = omega arith
-times_first (Items k) h = grind arith
-
-times_second : (g h : Root) → 1 ≤ times h (g ∷ h ∷ [])
-times_second g Everything = omega arith
-times_second g Nothing = omega arith
-times_second g (Items k) = grind arith
 
 -- the trees of two held graphs are canonical
 pub canonical_both : (old : Graph) (g h : Root) → IsHeld old (g ∷ h ∷ []) → AreCanonical old → IsCanonical old.nullable (tree_in old g) × IsCanonical old.nullable (tree_in old h)
@@ -47,19 +36,6 @@ pub keys_or : (old new : Graph) (g h r : Root) → IsHeld old (g ∷ h ∷ []) �
 keys_or old new g h r held is was ps tuple =
     let both = canonical_both old g h held was in
     ap (λ t. holds t ps) is ∙ or_holds old.nullable (tree_in old g) (tree_in old h) ps both.0 both.1 tuple
-
--- where both are spent and none is given there is room for one
-pub few_left : (old mid new : Graph) (taken levels : Slab Node) (g h : ℕ) (o : Option ℕ) → handle_count old < 2 ^ 32
-    → taken ≡ old.store → mid ≡ record old { store = mid.store } → new ≡ record mid { store = levels }
-    → Step taken levels (Some g ∷ Some h ∷ []) (o ∷ []) → o ≡ None
-    → handle_count new < 2 ^ 32 - 1
-few_left old mid new taken levels g h o few is_taken is_mid is_new step absent =
-    let all : new.all ≡ old.all = ap (λ x. x.all) is_new ∙ ap (λ x. x.all) is_mid in
-    let none : new.none ≡ old.none = ap (λ x. x.none) is_new ∙ ap (λ x. x.none) is_mid in
-    let stored : total_held new.store ≡ total_held levels = ap (λ x. total_held x.store) is_new in
-    let before : total_held taken ≡ total_held old.store = ap total_held is_taken in
-    let empty : roots_in (o ∷ []) ≡ 0 = ap (λ x. roots_in (x ∷ [])) absent in
-    omega (arith, few, all, none, stored, before, empty, totals taken levels (Some g ∷ Some h ∷ []) (o ∷ []) (λ m. step.held m))
 
 placed_of : (parts : List Bool) (l : Level) → IsCanonical parts (items l) → ArePlaced parts l
 placed_of parts end is = absurd is
@@ -126,6 +102,19 @@ some_tree old mid new taken levels parts g h key o r is_taken is_mid is_parts is
     ap (tree_in new) is_root
     ∙ ap₂ (λ s k. items (level_of s k)) stored (sym is)
     ∙ tree_some old.nullable (level_of old.store (Some g)) (level_of old.store (Some h)) (level_of levels o) (level ∙ back.level) some
+
+-- and canonical
+pub some_canonical : (old mid : Graph) (taken levels : Slab Node) (parts : List Bool) (g h key : ℕ) (o : Option ℕ)
+    → taken ≡ old.store → mid ≡ record old { store = mid.store } → parts ≡ mid.nullable → o ≡ Some key
+    → IsHeld old (Items g ∷ Items h ∷ []) → Owns taken (Some g ∷ Some h ∷ [])
+    → Step taken levels (Some g ∷ Some h ∷ []) (o ∷ [])
+    → level_of levels o ≡ unless_all parts (lay_all (union_below parts) (level_of taken (Some g)) (level_of taken (Some h)))
+    → AreCanonical old → IsCanonical old.nullable (items (level_of levels o))
+some_canonical old mid taken levels parts g h key o is_taken is_mid is_parts is held owns step level was =
+    let tree = some_tree old mid (record mid { store = levels }) taken levels parts g h key o (Items key) is_taken is_mid is_parts refl owns step is refl level in
+    let both = canonical_both old (Items g) (Items h) held was in
+    subst (λ (t : Tree). IsCanonical old.nullable t) (sym (ap (λ x. items (level_of levels x)) is ∙ tree))
+    (or_canonical old.nullable (tree_in old (Items g)) (tree_in old (Items h)) both.0 both.1)
 
 -- one without items is everything
 pub none_tree : (old mid : Graph) (taken levels : Slab Node) (parts : List Bool) (g h : ℕ) (o : Option ℕ)

@@ -11,7 +11,7 @@ ghost use Rattle.rx_graph.specs.Graph.{Steps, IsHeld, AreCanonical, handle_count
 ghost use Rattle.rx_or.specs.Below.{is_span, first_length};
 
 use crate::either::level_or;
-use rx_graph::{Arena, GraphFault, Handle, Root};
+use rx_graph::{Arena, GraphFault, Handle, Root, second_within};
 use std::alloc::Global;
 
 // Either of two graphs with items. Both are spent in every case.
@@ -24,7 +24,6 @@ fn items_or(
 ) -> Result<Handle, GraphFault>
     requires held { IsHeld arena.old (items_root g ∷ items_root h ∷ []) }
     requires few { handle_count arena.old < 2 ^ 32 }
-    requires canonical { AreCanonical arena.old }
     ensures ok { IfOk result (λ r. Steps arena.old arena.new (items_root g ∷ items_root h ∷ []) (r ∷ [])) }
     ensures tree { IfOk result (λ r. tree_in arena.new r ≡ tree_or arena.old.nullable (tree_in arena.old (items_root g)) (tree_in arena.old (items_root h))) }
     ensures small { IfOk result (λ r. size (tree_in arena.new r) ≤ limit) }
@@ -34,52 +33,19 @@ fn items_or(
 {
     arena.sound();
     let mut levels = arena.take_levels();
-    let made = level_or(alloc, &mut levels, arena.parts(), g, h, limit);
-    arena.put_levels(levels);
-    let whole = match made {
-        Ok(whole) => whole,
-        Err(fault) => return Err(fault),
-    };
-    match whole {
-        Some(key) => Ok(Handle::of(Root::Items(key))),
-        None => Ok(arena.everything()),
-    }
-}
-
-// A graph, unless its tree has more items than the limit: then it is spent.
-fn within(arena: &mut Arena, h: Handle, limit: u64) -> Result<Handle, GraphFault>
-    requires held { IsHeld arena.old (h ∷ []) }
-    ensures ok { IfOk result (λ r. Steps arena.old arena.new (h ∷ []) (r ∷ [])) }
-    ensures tree { IfOk result (λ r. tree_in arena.new r ≡ tree_in arena.old h) }
-    ensures small { IfOk result (λ r. size (tree_in arena.new r) ≤ limit) }
-    ensures over { OnErr result (limit < size (tree_in arena.old h)) }
-    ensures live { slab_len arena.new.store ≤ slab_len arena.old.store }
-    ensures err { OnErr result (Steps arena.old arena.new (h ∷ []) []) }
-{
-    if arena.tree_size(&h) > limit {
-        arena.release(h);
-        return Err(GraphFault::OverLimit);
-    }
-    Ok(h)
-}
-
-// The second graph, unless its tree has more items than the limit. The first is spent, and the second too
-// where it isn't given.
-fn second(arena: &mut Arena, spare: Handle, h: Handle, limit: u64) -> Result<Handle, GraphFault>
-    requires held { IsHeld arena.old (spare ∷ h ∷ []) }
-    ensures ok { IfOk result (λ r. Steps arena.old arena.new (spare ∷ h ∷ []) (r ∷ [])) }
-    ensures tree { IfOk result (λ r. tree_in arena.new r ≡ tree_in arena.old h) }
-    ensures small { IfOk result (λ r. size (tree_in arena.new r) ≤ limit) }
-    ensures over { OnErr result (limit < size (tree_in arena.old h)) }
-    ensures live { slab_len arena.new.store ≤ slab_len arena.old.store }
-    ensures count { OnOk result (handle_count arena.new + 1 ≡ handle_count arena.old) }
-    ensures err_count { OnErr result (handle_count arena.new + 2 ≡ handle_count arena.old) }
-    ensures err { OnErr result (Steps arena.old arena.new (spare ∷ h ∷ []) []) }
-{
-    arena.release(spare);
-    match within(arena, h, limit) {
-        Ok(whole) => Ok(whole),
-        Err(fault) => Err(fault),
+    match level_or(alloc, &mut levels, arena.parts(), g, h, limit) {
+        Ok(Some(key)) => {
+            arena.put_levels(levels);
+            Ok(Handle::of(Root::Items(key)))
+        }
+        Ok(None) => {
+            arena.put_levels(levels);
+            Ok(arena.everything())
+        }
+        Err(fault) => {
+            arena.put_levels(levels);
+            Err(fault)
+        }
     }
 }
 
@@ -100,7 +66,6 @@ pub fn or(
 ) -> Result<Handle, GraphFault>
     requires held { IsHeld arena.old (g ∷ h ∷ []) }
     requires few { handle_count arena.old < 2 ^ 32 }
-    requires canonical { AreCanonical arena.old }
     ensures ok { IfOk result (λ r. Steps arena.old arena.new (g ∷ h ∷ []) (r ∷ [])) }
     ensures tree { IfOk result (λ r. tree_in arena.new r ≡ tree_or arena.old.nullable (tree_in arena.old g) (tree_in arena.old h)) }
     ensures keys { IfOk result (λ r. (ps : List end_of_span) → IsTuple arena.old.nullable ps → holds (tree_in arena.new r) ps ≡ (holds (tree_in arena.old g) ps || holds (tree_in arena.old h) ps)) }
@@ -110,8 +75,9 @@ pub fn or(
     ensures err { OnErr result (Steps arena.old arena.new (g ∷ h ∷ []) []) }
     ensures count { OnOk result (handle_count arena.new + 1 ≡ handle_count arena.old) }
     ensures err_count { OnErr result (handle_count arena.new + 2 ≡ handle_count arena.old) }
-    ensures now_canonical { AreCanonical arena.new }
+    ensures canonical { AreCanonical arena.new }
 {
+    arena.sound();
     match (g.root(), h.root()) {
         (Root::Items(first), Root::Items(next)) => {
             let _ = g.into_root();
@@ -121,9 +87,9 @@ pub fn or(
                 Err(fault) => Err(fault),
             }
         }
-        (Root::Everything, _) => second(arena, h, g, limit),
-        (Root::Nothing, _) => second(arena, g, h, limit),
-        (_, Root::Everything) => second(arena, g, h, limit),
-        (_, Root::Nothing) => second(arena, h, g, limit),
+        (Root::Everything, _) => second_within(arena, h, g, limit),
+        (Root::Nothing, _) => second_within(arena, g, h, limit),
+        (_, Root::Everything) => second_within(arena, g, h, limit),
+        (_, Root::Nothing) => second_within(arena, h, g, limit),
     }
 }

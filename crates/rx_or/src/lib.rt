@@ -4,13 +4,8 @@
 mod covering;
 mod cutting;
 mod either;
-mod gluing;
 mod graphs;
 mod pieces;
-#[cfg(test)]
-mod scale;
-#[cfg(test)]
-mod tests;
 mod uniting;
 mod welding;
 mod wholes;

@@ -8,27 +8,9 @@ ghost use Rattle.rx_or.specs.Below.{in_parts};
 
 use crate::welding::put_between;
 use rx_level::{Item, Levels};
-use rx_value::{End, Span, compare_ends};
+use rx_value::{Span, compare_ends, earlier, later};
 use std::alloc::{AllocError, Global};
 use std::cmp::Ordering;
-
-fn later<'a>(a: &'a End, b: &'a End) -> &'a End
-    ensures { result.now ≡ later a.now b.now }
-{
-    match compare_ends(a, b) {
-        Ordering::Less => b,
-        _ => a,
-    }
-}
-
-fn earlier<'a>(a: &'a End, b: &'a End) -> &'a End
-    ensures { result.now ≡ earlier a.now b.now }
-{
-    match compare_ends(a, b) {
-        Ordering::Greater => b,
-        _ => a,
-    }
-}
 
 /// Whether some position lies in both of two spans.
 pub fn have_common(a: &Span, b: &Span) -> bool

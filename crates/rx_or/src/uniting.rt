@@ -11,12 +11,12 @@ ghost use Rattle.rx_or.specs.declared.uniting.Beside.TheVariants.{Left, Right, N
 ghost use Rattle.rx_or.specs.Below.{union_below, ahead, past, in_parts, ArePlacedBelow};
 
 use crate::covering::cover;
-use crate::gluing::glue;
 use crate::pieces::{have_common, spread};
 use crate::welding::shared_item;
 use crate::wholes::is_all;
 use rx_level::{Item, Levels, Opened, join};
 use rx_value::{End, Span, compare_ends};
+use rx_weld::glue;
 use std::alloc::{AllocError, Global};
 use std::cmp::Ordering;
 

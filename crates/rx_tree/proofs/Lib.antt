@@ -1,4 +1,4 @@
-mod Bools
+pub mod Bools
 pub mod Places
 pub mod Sets
 pub mod Welding

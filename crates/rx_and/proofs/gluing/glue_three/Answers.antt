@@ -2,10 +2,11 @@ use Rattle.std.proofs.Common.{◌≡◌, ◌<◌, IfOk, IfErr, arith, ap, sym, �
 use Rattle.rx_graph.specs.declared.faults.GraphFault.{GraphFault}
 use Rattle.rx_tree.specs.Tree.{Level, level_size}
 use Rattle.rx_level.specs.Step.{level_of}
-use Rattle.rx_and.specs.Apart.{AreApart}
-use Rattle.rx_and.proofs.Apart.{glue_are_apart}
+use Rattle.rx_weld.specs.Apart.{AreApart}
+use Rattle.rx_weld.proofs.Apart.{glue_are_apart}
 use Rattle.rx_and.proofs.Meets.{three_are}
-use Rattle.rx_and.proofs.Seams.{owned_lent, three_placed}
+use Rattle.rx_weld.proofs.Welded.{owned_lent}
+use Rattle.rx_and.proofs.Placed.{three_placed}
 use Rattle.rx_and.proofs.gluing.glue_three.Goals as goal
 
 pub glue_within-requires-clause-apart : goal.glue_within-requires-clause-apart

@@ -1,6 +1,6 @@
 use Rattle.std.proofs.Common.{arith, ap, ◌∙◌}
 use Rattle.rx_tree.specs.Tree.{level_size}
-use Rattle.rx_and.proofs.Seams.{placed}
+use Rattle.rx_and.proofs.Placed.{placed}
 use Rattle.rx_and.proofs.gluing.place_between.Goals as goal
 
 pub returns-in-Ok-within-clause-level : goal.returns-in-Ok-within-clause-level

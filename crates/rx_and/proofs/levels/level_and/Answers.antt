@@ -1,5 +1,5 @@
 use Rattle.std.proofs.Common.{Some, arith}
-use Rattle.rx_and.proofs.Seams.{owned_lent}
+use Rattle.rx_weld.proofs.Welded.{owned_lent}
 use Rattle.rx_and.proofs.Hanging.{number_stays, freed_tree}
 use Rattle.rx_and.proofs.levels.level_and.Goals as goal
 

@@ -1,6 +1,6 @@
 use Rattle.std.proofs.Common.{◌∙◌, Some, arith, sym}
 use Rattle.rx_level.specs.Step.{level_of}
-use Rattle.rx_or.proofs.Welded.{owned_lent}
+use Rattle.rx_weld.proofs.Welded.{owned_lent}
 use Rattle.rx_or.proofs.Laid.{parts_order, parts_turn, bare_lay}
 use Rattle.rx_or.proofs.either.lay_shorter.Goals as goal
 

@@ -1,5 +1,5 @@
 use Rattle.std.proofs.Common.{[], ◌∷◌, arith}
-use Rattle.rx_or.proofs.Welded.{owned_lent}
+use Rattle.rx_weld.proofs.Welded.{owned_lent}
 use Rattle.rx_or.proofs.either.level_or.Goals as goal
 
 pub is_all-requires : goal.is_all-requires

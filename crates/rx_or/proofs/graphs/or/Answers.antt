@@ -8,12 +8,12 @@ use Rattle.rx_or.proofs.graphs.or.Goals as goal
 pub returns-in-Ok-clause-keys : goal.returns-in-Ok-clause-keys
 returns-in-Ok-clause-keys c ps tuple =
     keys_items_or c.args.arena.now c.items_or.new.arena c.args.g c.args.h c.in-Ok.whole c.in-Items-Items.first c.in-Items-Items.next (sym c.root.ensures ∙ c.in-Items-Items.is-0) (sym c.root-2.ensures ∙ c.in-Items-Items.is-1)
-    c.requires.held c.in-Ok.ensures.tree c.requires.canonical ps tuple
+    c.requires.held c.in-Ok.ensures.tree c.sound.ensures.canonical ps tuple
 
-pub returns-in-Ok-clause-now_canonical : goal.returns-in-Ok-clause-now_canonical
-returns-in-Ok-clause-now_canonical c =
+pub returns-in-Ok-clause-canonical : goal.returns-in-Ok-clause-canonical
+returns-in-Ok-clause-canonical c =
     given_items_or c.args.arena.now c.items_or.new.arena c.args.g c.args.h c.in-Ok.whole c.in-Items-Items.first c.in-Items-Items.next (sym c.root.ensures ∙ c.in-Items-Items.is-0) (sym c.root-2.ensures ∙ c.in-Items-Items.is-1)
-    c.requires.held c.in-Ok.ensures.ok c.in-Ok.ensures.tree c.requires.canonical
+    c.requires.held c.in-Ok.ensures.ok c.in-Ok.ensures.tree c.sound.ensures.canonical
 
 pub returns-in-Ok-clause-count : goal.returns-in-Ok-clause-count
 returns-in-Ok-clause-count c =

@@ -2,9 +2,9 @@ use Rattle.std.proofs.Common.{◌≡◌, ◌-◌, ◌∙◌, Bool, false, List, 
 use Rattle.rx_level.specs.Step.{level_of}
 use Rattle.rx_or.proofs.Laid.{parts_order, placed_left, cover_lay, below_first, below_second, first_and_rest, first_and_drop, all_below, some_below}
 use Rattle.rx_or.proofs.Opened.{none_level}
-use Rattle.rx_or.proofs.Following.{taken, taken_right, behind, laid_on, laid_level, kept_below, onto_level, are_held, united, taken_aside, aside_left, aside_right, right_level, left_level, over_level, piece_made, fronted, front_order, across_level}
+use Rattle.rx_or.proofs.Following.{taken, taken_right, behind, laid_on, laid_level, kept_below, onto_level, are_held, united, taken_aside, aside_left, aside_right, right_level, left_level, over_level, piece_made, fronted, front_apart, across_level}
 use Rattle.rx_tree.specs.Join.{length_of}
-use Rattle.rx_or.proofs.Welded.{owned_lent}
+use Rattle.rx_weld.proofs.Welded.{owned_lent}
 use Rattle.rx_or.specs.Below.{union_below}
 use Rattle.rx_or.proofs.uniting.+unite.Goals.{unite_below-then-count-eq0-via-then-count-eq0, unite_below-then-count-eq0-via-else-count-eq0+then-count-eq0-2}
 use Rattle.rx_or.proofs.uniting.+unite.Goals as goal
@@ -131,10 +131,10 @@ lay_across-lay_onto-requires t c =
     let x = fronted c.args.levels.now c.lay_front.new.levels c.args.parts.now c.args.item c.args.top.item c.args.top.left c.args.top.right c.in-Ok.front c.requires.owns c.in-Ok.ensures.ok c.requires.alone c.requires.level c.in-Ok.ensures.level in
     (omega (arith, ap length_of x.behind, c.decreases), (record { sound = x.sound; owned = λ m. omega (arith, x.held m) }, (x.alone, x.placed)))
 
-pub lay_across-glue-requires-clause-order : goal.lay_across-glue-requires-clause-order
-lay_across-glue-requires-clause-order t c =
+pub lay_across-glue-requires-clause-apart : goal.lay_across-glue-requires-clause-apart
+lay_across-glue-requires-clause-apart t c =
     let x = fronted c.args.levels.now c.lay_front.new.levels c.args.parts.now c.args.item c.args.top.item c.args.top.left c.args.top.right c.in-Ok.front c.requires.owns c.in-Ok.ensures.ok c.requires.alone c.requires.level c.in-Ok.ensures.level in
-    front_order c.args.levels.now c.lay_front.new.levels c.lay_onto.new.levels c.args.parts.now c.args.item c.args.top.item c.args.top.right c.in-Ok.front _ x c.in-Ok-lay_onto.ensures.ok
+    front_apart c.args.levels.now c.lay_front.new.levels c.lay_onto.new.levels c.args.parts.now c.args.item c.args.top.item c.args.top.right c.in-Ok.front _ x c.in-Ok-lay_onto.ensures.ok
 
 pub lay_across-returns-in_ok-whole-in-Ok-lay_onto-clause-level : goal.lay_across-returns-in_ok-whole-in-Ok-lay_onto-clause-level
 lay_across-returns-in_ok-whole-in-Ok-lay_onto-clause-level t c =

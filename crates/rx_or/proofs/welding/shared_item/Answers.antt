@@ -1,5 +1,5 @@
 use Rattle.std.proofs.Common.{arith}
-use Rattle.rx_or.proofs.Welded.{owned_lent}
+use Rattle.rx_weld.proofs.Welded.{owned_lent}
 use Rattle.rx_or.proofs.welding.shared_item.Goals as goal
 
 pub hold-requires : goal.hold-requires

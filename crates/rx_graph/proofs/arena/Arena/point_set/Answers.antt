@@ -1,7 +1,7 @@
-use Rattle.std.proofs.Common.{arith, ◌≡◌, [], ◌∷◌, ap, rules}
+use Rattle.std.proofs.Common.{arith, ◌≡◌, [], ◌∷◌, ap, subst, rules}
 use Rattle.rx_tree.specs.Points.{point_tree}
 use Rattle.rx_level.specs.Step.{level_of}
-use Rattle.rx_graph.specs.Graph.{tree_in}
+use Rattle.rx_graph.specs.Graph.{AreCanonical, tree_in}
 use Rattle.rx_graph.proofs.Amounts.{counted}
 use Rattle.rx_graph.proofs.Steps.{canonical_kept, canonical_given}
 use Rattle.rx_graph.proofs.Listed.{level_stands, tree_canonical, tree_holds}
@@ -18,7 +18,10 @@ returns-then-is_whole_at-clause-keys c =
     tree_holds c.args.self.now.nullable c.args.part c.args.spans _ c.requires.spans e
 
 pub returns-in_default-clause-canonical : goal.returns-in_default-clause-canonical
-returns-in_default-clause-canonical c = canonical_kept c.args.self.now (record { nullable = c.self.inside.nullable; store = c.level_at-made.new.levels; all = c.self.inside.all; none = c.self.inside.none }) [] (search rules)
+returns-in_default-clause-canonical c = canonical_kept c.args.self.now (record { nullable = c.self.inside.nullable; store = c.level_at-made.new.levels; all = c.self.inside.all; none = c.self.inside.none }) [] (search rules) (subst AreCanonical c.self.view_is c.self.invariant)
+
+pub invariant_of-self : goal.invariant_of-self
+invariant_of-self c = canonical_kept c.args.self.now (record { nullable = c.self.inside.nullable; store = c.level_at-made.new.levels; all = c.self.inside.all; none = c.self.inside.none }) [] (search rules) (subst AreCanonical c.self.view_is c.self.invariant)
 
 pub returns-in-Some-clause-keys : goal.returns-in-Some-clause-keys
 returns-in-Some-clause-keys c =
@@ -28,10 +31,19 @@ returns-in-Some-clause-keys c =
 pub returns-in-Some-clause-canonical : goal.returns-in-Some-clause-canonical
 returns-in-Some-clause-canonical c =
     let e : tree_in (record { nullable = c.self.inside.nullable; store = c.level_at-made.new.levels; all = c.self.inside.all; none = c.self.inside.none }) c.of.result ≡ point_tree c.args.self.now.nullable c.args.part c.args.spans = search rules in
-    canonical_given c.args.self.now (record { nullable = c.self.inside.nullable; store = c.level_at-made.new.levels; all = c.self.inside.all; none = c.self.inside.none }) [] c.of.result (search rules) (tree_canonical c.args.self.now.nullable c.args.part c.args.spans _ c.requires.spans e)
+    canonical_given c.args.self.now (record { nullable = c.self.inside.nullable; store = c.level_at-made.new.levels; all = c.self.inside.all; none = c.self.inside.none }) [] c.of.result (search rules) (tree_canonical c.args.self.now.nullable c.args.part c.args.spans _ c.requires.spans e) (subst AreCanonical c.self.view_is c.self.invariant)
+
+pub invariant_of-self-in-Some : goal.invariant_of-self-in-Some
+invariant_of-self-in-Some c =
+    let e : tree_in (record { nullable = c.self.inside.nullable; store = c.level_at-made.new.levels; all = c.self.inside.all; none = c.self.inside.none }) c.of.result ≡ point_tree c.args.self.now.nullable c.args.part c.args.spans = search rules in
+    canonical_given c.args.self.now (record { nullable = c.self.inside.nullable; store = c.level_at-made.new.levels; all = c.self.inside.all; none = c.self.inside.none }) [] c.of.result (search rules) (tree_canonical c.args.self.now.nullable c.args.part c.args.spans _ c.requires.spans e) (subst AreCanonical c.self.view_is c.self.invariant)
 
 pub nothing-requires-in-None : goal.nothing-requires-in-None
 nothing-requires-in-None c =
+    absurd (level_stands c.args.self.now.nullable c.as_slice-4.result.now c.args.part c.args.spans c.as_slice-5.result.now _ (search rules) (search rules) c.in-Ok.ensures.level (ap (level_of c.level_at-made.new.levels) c.in-None.is) c.requires.spans (search rules))
+
+pub invariant_of-self-in-None : goal.invariant_of-self-in-None
+invariant_of-self-in-None c =
     absurd (level_stands c.args.self.now.nullable c.as_slice-4.result.now c.args.part c.args.spans c.as_slice-5.result.now _ (search rules) (search rules) c.in-Ok.ensures.level (ap (level_of c.level_at-made.new.levels) c.in-None.is) c.requires.spans (search rules))
 
 pub returns-clause-tree : goal.returns-clause-tree

@@ -16,14 +16,23 @@ free-requires c = record {
   owned = λ m. omega (arith, held_items c.args.self.now c.args.h c.in-Items.key c.requires (sym c.into_root.ensures ∙ c.in-Items.is) m, ap (λ g. held_of g.store m) c.self.view_is);
 }
 
+pub invariant_of-self : goal.invariant_of-self
+invariant_of-self c = canonical_kept (record { nullable = c.self.inside.nullable; store = c.self.inside.levels; all = c.self.inside.all; none = c.self.inside.none }) (record { nullable = c.self.inside.nullable; store = c.self.inside.levels; all = c.self.inside.all - 1; none = c.self.inside.none }) (c.args.h ∷ []) (search rules) c.self.invariant
+
 pub returns-in-Everything-clause-canonical : goal.returns-in-Everything-clause-canonical
-returns-in-Everything-clause-canonical c = canonical_kept c.args.self.now (record { nullable = c.self.inside.nullable; store = c.self.inside.levels; all = c.self.inside.all - 1; none = c.self.inside.none }) (c.args.h ∷ []) (search rules)
+returns-in-Everything-clause-canonical c = canonical_kept (record { nullable = c.self.inside.nullable; store = c.self.inside.levels; all = c.self.inside.all; none = c.self.inside.none }) (record { nullable = c.self.inside.nullable; store = c.self.inside.levels; all = c.self.inside.all - 1; none = c.self.inside.none }) (c.args.h ∷ []) (search rules) c.self.invariant
+
+pub invariant_of-self-in-Nothing : goal.invariant_of-self-in-Nothing
+invariant_of-self-in-Nothing c = canonical_kept (record { nullable = c.self.inside.nullable; store = c.self.inside.levels; all = c.self.inside.all; none = c.self.inside.none }) (record { nullable = c.self.inside.nullable; store = c.self.inside.levels; all = c.self.inside.all; none = c.self.inside.none - 1 }) (c.args.h ∷ []) (search rules) c.self.invariant
 
 pub returns-in-Nothing-clause-canonical : goal.returns-in-Nothing-clause-canonical
-returns-in-Nothing-clause-canonical c = canonical_kept c.args.self.now (record { nullable = c.self.inside.nullable; store = c.self.inside.levels; all = c.self.inside.all; none = c.self.inside.none - 1 }) (c.args.h ∷ []) (search rules)
+returns-in-Nothing-clause-canonical c = canonical_kept (record { nullable = c.self.inside.nullable; store = c.self.inside.levels; all = c.self.inside.all; none = c.self.inside.none }) (record { nullable = c.self.inside.nullable; store = c.self.inside.levels; all = c.self.inside.all; none = c.self.inside.none - 1 }) (c.args.h ∷ []) (search rules) c.self.invariant
+
+pub invariant_of-self-in-Items : goal.invariant_of-self-in-Items
+invariant_of-self-in-Items c = canonical_kept (record { nullable = c.self.inside.nullable; store = c.self.inside.levels; all = c.self.inside.all; none = c.self.inside.none }) (record { nullable = c.self.inside.nullable; store = c.free.new.self; all = c.self.inside.all; none = c.self.inside.none }) (c.args.h ∷ []) (search rules) c.self.invariant
 
 pub returns-in-Items-clause-canonical : goal.returns-in-Items-clause-canonical
-returns-in-Items-clause-canonical c = canonical_kept c.args.self.now (record { nullable = c.self.inside.nullable; store = c.free.new.self; all = c.self.inside.all; none = c.self.inside.none }) (c.args.h ∷ []) (search rules)
+returns-in-Items-clause-canonical c = canonical_kept (record { nullable = c.self.inside.nullable; store = c.self.inside.levels; all = c.self.inside.all; none = c.self.inside.none }) (record { nullable = c.self.inside.nullable; store = c.free.new.self; all = c.self.inside.all; none = c.self.inside.none }) (c.args.h ∷ []) (search rules) c.self.invariant
 
 pub returns-in-Items-clause-count : goal.returns-in-Items-clause-count
 returns-in-Items-clause-count c = omega (arith, counted c.args.self.now (record { nullable = c.self.inside.nullable; store = c.free.new.self; all = c.self.inside.all; none = c.self.inside.none }) (c.args.h ∷ []) [] (search rules))

@@ -1,4 +1,0 @@
-use Rattle.rx_or.proofs.scale.+with_points.Given as goal
-
-abbrev pub decreases-with_points : goal.decreases-with_points
-decreases-with_points g l = l.range.count

@@ -1,0 +1,4 @@
+pub mod Apart
+pub mod Seams
+pub mod Welded
+pub mod Glued

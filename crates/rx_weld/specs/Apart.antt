@@ -1,0 +1,9 @@
+-- Levels whose neighbours can't be one item.
+use Rattle.rx_tree.specs.Tree.{Level}
+use Rattle.rx_tree.specs.Tree.Level.{end, item}
+use Rattle.rx_tree.specs.Canonical.{Differs}
+
+-- no two touching neighbours of a level have the same child
+abbrev pub AreApart : Level → Type 0
+AreApart end = Unit {0}
+AreApart (item s c rest) = Differs s c rest × AreApart rest
