@@ -1,4 +1,5 @@
 pub mod Meeting
 pub mod Ends
 pub mod Equal
+pub mod Widths
 mod Points

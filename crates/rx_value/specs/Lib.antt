@@ -1,4 +1,6 @@
 pub mod Counting
+pub mod Limits
+pub mod Names
 pub mod Order
 pub mod Range
 pub mod Shape

@@ -1,8 +1,9 @@
 -- What fits a shape, and the limits of shapes.
-use Rattle.std.specs.Prelude.{◌≡◌, ℕ, ◌-◌, ◌^◌, ◌<◌, ◌≤◌, ℤ, pos, ◌+ℤ◌, ◌≤ℤ◌, ◌<ℤ◌, Bool, true, false, not, List, [], ◌∷◌, map, drop, length, Some, filter, All}
+use Rattle.std.specs.Prelude.{◌≡◌, ℕ, ◌-◌, ◌^◌, ◌<◌, ◌≤◌, ℤ, pos, ◌+ℤ◌, ◌≤ℤ◌, ◌<ℤ◌, ◌⊎◌, Bool, true, false, not, List, [], ◌∷◌, map, drop, length, Some, filter, All}
 use Rattle.std.specs.List.{IsDistinct}
 use Rattle.std.specs.Prelude.{nat_eq, slice_get}
 use Rattle.std.specs.Str.{IsUtf8, chars}
+use Rattle.rx_value.specs.Limits.{most_columns, most_indexes, most_parts}
 use Rattle.rx_value.specs.declared.values.Value.{Value}
 use Rattle.rx_value.specs.declared.values.Value.TheVariants.{Null, Int, Text}
 use Rattle.rx_value.specs.declared.shapes.ColType.{ColType}
@@ -16,10 +17,14 @@ abbrev pub InRange : ℕ → Bool → ℤ → Type 0
 InRange bits true n = (pos 0 ≤ℤ (n +ℤ pos (2 ^ (bits - 1)))) × (n <ℤ pos (2 ^ (bits - 1)))
 InRange bits false n = (pos 0 ≤ℤ n) × (n <ℤ pos (2 ^ bits))
 
--- an integer type has 1 to 64 bits
-abbrev pub IsSized : ColType → Type 0
-IsSized (Whole bits signed) = (1 ≤ bits) × (bits ≤ 64)
-IsSized (VarChar count) = Unit {0}
+-- integers have 8, 16, 24, 32 or 64 bits
+abbrev pub HasWidth : ℕ → Type 0
+HasWidth bits = (bits ≡ 8) ⊎ (bits ≡ 16) ⊎ (bits ≡ 24) ⊎ (bits ≡ 32) ⊎ (bits ≡ 64)
+
+-- a column's type: an integer of such a width, or a text of at most 255 characters
+abbrev pub IsColType : ColType → Type 0
+IsColType (Whole bits signed) = HasWidth bits
+IsColType (VarChar count) = count ≤ 255
 
 -- a value is of a column's type, or NULL
 abbrev pub FitsType : ColType → Value → Type 0
@@ -51,18 +56,19 @@ columns_of index = map (λ p. p.column) index.parts
 abbrev pub IsNotNull : List Column → ℕ → Type 0
 IsNotNull columns c = (column : Column) × (slice_get columns c ≡ Some column) × (column.nullable ≡ false)
 
--- an index has 1 to 16 parts, on columns that are there, none twice; a primary one is unique and never NULL
+-- an index has at least one part and no more than the limit, on columns that are there, none twice; a primary one is unique and never NULL
 pub record FitsIndex (columns : List Column) (index : Index) : Type 0 where
   pub some : 0 < length index.parts
-  pub few : length index.parts ≤ 16
+  pub few : length index.parts ≤ most_parts
   pub there : All (λ c. c < length columns) (columns_of index)
   pub distinct : IsDistinct nat_eq (columns_of index)
   pub unique : index.primary ≡ true → index.unique ≡ true
   pub not_null : index.primary ≡ true → All (IsNotNull columns) (columns_of index)
 
--- A schema within the limits: at most 256 columns and 64 secondary indexes, the primary key first where there is one.
+-- A schema within the limits, its types those of columns, the primary key first where there is one.
 pub record IsSchema (schema : Schema) : Type 0 where
-  pub few_columns : length schema.columns ≤ 256
-  pub few_indexes : length (filter (λ i. not i.primary) schema.indexes) ≤ 64
+  pub few_columns : length schema.columns ≤ most_columns
+  pub types : All (λ c. IsColType c.kind) schema.columns
+  pub few_indexes : length (filter (λ i. not i.primary) schema.indexes) ≤ most_indexes
   pub indexes : All (FitsIndex schema.columns) schema.indexes
   pub primary_first : All (λ i. i.primary ≡ false) (drop 1 schema.indexes)

@@ -1,9 +1,11 @@
 -- Spans as sets of positions. A position is a cut; it is in a span where it isn't below its lower end, and is below its upper one.
 use Rattle.std.specs.Prelude.{◌≡◌, ◌&&◌, Bool, true, false, not, Option, Some, None}
 use Rattle.std.specs.declared.cmp.Ordering.TheVariants.{Less, Greater}
+use Rattle.rx_value.specs.declared.values.Value.TheVariants.{Null}
 use Rattle.rx_value.specs.declared.order.End.{End}
+use Rattle.rx_value.specs.declared.order.End.TheVariants.{Last}
 use Rattle.rx_value.specs.declared.order.Span.{Span}
-use Rattle.rx_value.specs.Order.{end_cmp, is_at_most}
+use Rattle.rx_value.specs.Order.{end_cmp, is_at_most, below, above}
 
 -- the first end isn't above the second
 abbrev pub IsAtMost : End → End → Type 0
@@ -35,6 +37,19 @@ IsSpanPart (Some s) = IsSpan s
 pub record IsCommon (s t : Span) (part : Option Span) : Type 0 where
   pub positions : (p : End) → is_inside_part part p ≡ (is_inside s p && is_inside t p)
   pub span : IsSpanPart part
+
+-- the first position of a part: the cut below NULL where the part may be NULL, else the cut above it
+abbrev pub first_end : Bool → End
+first_end true = below Null
+first_end false = above Null
+
+-- the whole of a part as one span
+abbrev pub whole_span : Bool → Span
+whole_span nullable = record { lo = first_end nullable; hi = Last }
+
+-- a span has all positions of its part
+abbrev pub is_whole_span : Bool → Span → Bool
+is_whole_span nullable s = is_at_most s.lo (first_end nullable) && is_at_most Last s.hi
 
 -- the one of two ends that isn't below the other
 abbrev pub later : End → End → End

@@ -1,18 +1,28 @@
-//! Values and their order, spans and ranges of keys, and the shapes of tables.
+//! Values and their order, spans and ranges of keys, the shapes of tables and their limits.
 #![tactic(auto)]
 
-mod lists;
+mod bytes;
+mod copies;
+mod limits;
+mod list;
+mod names;
 mod order;
 mod ranges;
 mod shapes;
 mod spans;
 mod values;
 
-pub use lists::{
-    BoolList, Bytes, Key, KeyList, KeyLists, NameList, NumberList, OrderLists, Row, RowList,
+pub use bytes::Bytes;
+pub use copies::Copied;
+pub use limits::{MOST_COLUMNS, MOST_INDEXES, MOST_PARTS, MOST_ROWS};
+pub use list::{
+    BoolList, Key, KeyList, KeyLists, List, NameList, NumberList, OrderLists, Row, RowList,
 };
-pub use order::{End, Side, Span, compare_ends};
+pub use names::same_name;
+pub use order::{End, Side, Span, compare_ends, is_at_most};
 pub use ranges::{Bound, Group, GroupList, KeyRange, RangeList, Rest, SpanList};
 pub use shapes::{ColType, Column, ColumnList, Index, IndexList, Part, PartList, Schema};
-pub use spans::{earlier, ends_are_ordered, later, meet, touches};
+pub use spans::{
+    earlier, ends_are_ordered, first_end, is_whole_span, later, meet, touches, whole_span,
+};
 pub use values::{Value, compare};

@@ -11,12 +11,16 @@ ghost use Rattle.rx_value.specs.Spans.{
   IsSpan,
   IsCommon,
   is_inside,
+  first_end,
+  whole_span,
+  is_whole_span,
   meet_span,
   later,
   earlier,
 };
 
-use crate::order::{End, Span, compare_ends};
+use crate::order::{End, Side, Span, compare_ends, is_at_most};
+use crate::values::Value;
 use std::cmp::Ordering;
 
 /// The ends of the common part of two spans, or None exactly where they have no position in common.
@@ -59,6 +63,35 @@ pub fn earlier<'a>(a: &'a End, b: &'a End) -> &'a End
         Ordering::Greater => b,
         _ => a,
     }
+}
+
+/// The first position of a part: the cut below NULL where the part may be NULL, else the cut above it.
+pub fn first_end(nullable: bool) -> End
+    ensures { result ≡ first_end nullable }
+{
+    let side = if nullable { Side::Below } else { Side::Above };
+    End::Cut {
+        at: Value::Null,
+        side,
+    }
+}
+
+/// The whole of a part as one span.
+pub fn whole_span(nullable: bool) -> Span
+    ensures { result ≡ whole_span nullable }
+{
+    Span {
+        lo: first_end(nullable),
+        hi: End::Last,
+    }
+}
+
+/// Whether a span has all positions of its part.
+pub fn is_whole_span(nullable: bool, span: &Span) -> bool
+    ensures { result ≡ is_whole_span nullable span.now }
+{
+    let first = first_end(nullable);
+    is_at_most(&span.lo, &first) && is_at_most(&End::Last, &span.hi)
 }
 
 /// Laws of ends and spans, with nothing to run: the order of ends is total, ends that compare equal

@@ -1,12 +1,13 @@
 ghost use Rattle.std.specs.Prelude.{◌≡◌, IfOk};
 ghost use Rattle.rx_value.specs.Order.{value_cmp};
 
-use crate::lists::Bytes;
+use crate::bytes::Bytes;
+use crate::copies::Copied;
 use std::alloc::{AllocError, Global};
 use std::cmp::Ordering;
 
 /// A value of a column. One column never holds both integers and texts.
-#[derive(Debug, Drop)]
+#[derive(Drop)]
 pub enum Value {
     /// NULL, the lowest value.
     Null,
@@ -44,13 +45,8 @@ pub fn compare(a: &Value, b: &Value) -> Ordering
     }
 }
 
-/// The same values in memory of their own.
-pub(crate) fn copy_values(alloc: Global, values: &[Value]) -> Result<Vec<Value>, AllocError>
-    ensures { IfOk result (λ v. v.items ≡ values.now) }
-{
-    let mut copies = Vec::with_capacity(alloc, values.len())?;
-    for value in values {
-        copies.push(value.copy(alloc)?)?;
+impl Copied for Value {
+    fn copied(&self, alloc: Global) -> Result<Value, AllocError> {
+        self.copy(alloc)
     }
-    Ok(copies)
 }
