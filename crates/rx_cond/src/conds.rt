@@ -28,7 +28,7 @@ pub enum Op {
 }
 
 /// A side of a test.
-#[derive(Debug, Drop)]
+#[derive(Drop)]
 pub enum Operand {
     /// The value of the column with this number, from 0.
     Column(u32),
@@ -37,7 +37,7 @@ pub enum Operand {
 
 /// A condition over the columns of a row. BETWEEN is a conjunction, and the NOT forms are
 /// negations.
-#[derive(Debug, Drop)]
+#[derive(Drop)]
 pub enum Cond {
     Truth(Tri),
     Compare {

@@ -2,7 +2,7 @@ ghost use Rattle.std.specs.Prelude.{◌≡◌, IfOk, map};
 ghost use Rattle.rx_cond.specs.Tree.{tree_of};
 
 use crate::conds::{Cond, Operand};
-use rx_value::{Bytes, Key, KeyList, NumberList};
+use rx_value::Bytes;
 use std::alloc::{AllocError, Global};
 
 impl Operand {
@@ -35,8 +35,8 @@ impl Cond {
                 list: list.copy(alloc)?,
             },
             Cond::RowMember { columns, list } => Cond::RowMember {
-                columns: NumberList::from_vec(Vec::from_slice(alloc, columns.as_slice())?),
-                list: copy_keys(alloc, list.as_slice())?,
+                columns: columns.copy(alloc)?,
+                list: list.copy(alloc)?,
             },
             Cond::IsNull(operand) => Cond::IsNull(operand.copy(alloc)?),
             Cond::Like { column, pattern } => Cond::Like {
@@ -58,16 +58,6 @@ fn copy_all(alloc: Global, items: &[Cond]) -> Result<Vec<Cond>, AllocError>
     let mut copies = Vec::new(alloc);
     for item in items {
         copies.push(item.copy(alloc)?)?;
-    }
-    Ok(copies)
-}
-
-fn copy_keys(alloc: Global, keys: &[Key]) -> Result<KeyList, AllocError>
-    ensures { IfOk result (λ list. list ≡ keys.now) }
-{
-    let mut copies = KeyList::new(alloc);
-    for key in keys {
-        copies.push(key.copy(alloc)?)?;
     }
     Ok(copies)
 }

@@ -102,22 +102,35 @@ pub(crate) fn row_membership(columns: &[u32], list: &[Key], row: &Row) -> Tri
     any
 }
 
+// Whether a column equals a value.
+fn equality_at(column: u32, element: &Value, row: &Row) -> Tri
+    ensures { result ≡ comparison Eq (column_value column row.now) element.now }
+{
+    match column_value(column, row) {
+        Some(value) => equality(value, element),
+        None => Tri::N,
+    }
+}
+
 // Whether each column equals the value at its place.
 #[tactic(auto, using(crate::proofs::Lists::equality_with_no_key))]
 fn row_equality(columns: &[u32], key: &[Value], row: &Row) -> Tri
     ensures { result ≡ row_equality columns.now key.now row.now }
 {
-    let Some((column, columns)) = columns.split_first() else {
-        return Tri::T;
-    };
-    let Some((element, key)) = key.split_first() else {
-        return Tri::T;
-    };
-    let first = match column_value(*column, row) {
-        Some(value) => equality(value, element),
-        None => Tri::N,
-    };
-    both(first, row_equality(columns, key, row))
+    let mut all = Tri::T;
+    let mut columns = columns;
+    let mut key = key;
+    'columns: loop {
+        let Some((column, other_columns)) = columns.split_first() else {
+            return all;
+        };
+        let Some((element, others)) = key.split_first() else {
+            return all;
+        };
+        all = both(all, equality_at(*column, element, row));
+        columns = other_columns;
+        key = others;
+    }
 }
 
 pub(crate) fn likeness(column: u32, pattern: &[u8], row: &Row) -> Tri

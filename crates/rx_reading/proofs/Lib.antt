@@ -1,6 +1,6 @@
+pub mod Enclosed
 pub mod Farther
-pub mod More
+pub mod Going
 pub mod Spelled
 pub mod Steps
 pub mod Whole
-pub mod Going

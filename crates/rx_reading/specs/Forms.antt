@@ -1,6 +1,7 @@
 -- Forms of a grammar: which tokens spell them, and which come behind.
 use Rattle.std.specs.Prelude.{◌≡◌, ℕ, true, List, [], ◌∷◌}
 use Rattle.rx_token.specs.declared.kinds.Token.{Token}
+use Rattle.rx_token.specs.declared.signs.TheConstants.{OPEN, CLOSE, COMMA}
 use Rattle.rx_token.specs.Reserved.{is_word_of}
 use Rattle.rx_reading.specs.Reading.{is_sign_kind, is_name, is_text_kind}
 
@@ -48,3 +49,7 @@ values f (before a others) = f a ∷ values f others
 abbrev pub SpellsListed : {A : Type 0} → Form → (A → Form) → Listed A → Form
 SpellsListed separator item (last a) = item a
 SpellsListed separator item (before a others) = item a >> separator >> SpellsListed separator item others
+
+-- "(" item {"," item} ")"
+abbrev pub SpellsEnclosed : {A : Type 0} → (A → Form) → Listed A → Form
+SpellsEnclosed item list = Sign OPEN >> SpellsListed (Sign COMMA) item list >> Sign CLOSE

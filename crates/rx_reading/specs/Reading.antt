@@ -1,15 +1,39 @@
 -- Reading tokens from left to right.
-use Rattle.std.specs.Prelude.{ℕ, zero, suc, Bool, true, false, not, List, [], ◌∷◌, length, Option, Some, None, ◌==◌, if◌then◌else◌}
-use Rattle.std.specs.Option.{option_and_then}
+use Rattle.std.specs.Prelude.{◌≡◌, ◌<◌, ◌≤◌, ℕ, zero, suc, Bool, true, false, not, List, [], ◌∷◌, ◌++◌, length, Option, Some, None, IfSome, ◌==◌, if◌then◌else◌}
+use Rattle.std.specs.Option.{option_and_then, option_map, option_or}
+use Rattle.std.specs.Borrow.{Bor}
 use Rattle.rx_token.specs.declared.kinds.Token.{Token}
 use Rattle.rx_token.specs.declared.kinds.TokenKind.{TokenKind}
 use Rattle.rx_token.specs.declared.kinds.TokenKind.TheVariants.{Word, Quoted, Number, Str, Sign}
-use Rattle.rx_token.specs.declared.signs.TheConstants.{SEMICOLON}
+use Rattle.rx_token.specs.declared.signs.TheConstants.{OPEN, CLOSE, COMMA, SEMICOLON}
 use Rattle.rx_token.specs.Reserved.{is_word_kind, is_word_of, is_reserved}
+use Rattle.rx_reading.specs.declared.read.Read.{Read}
+use Rattle.rx_reading.specs.declared.items.Separator.{Separator}
+use Rattle.rx_reading.specs.declared.items.Separator.TheVariants.{Nothing, Comma, MaybeComma}
 
 -- what is read at the front, and the tokens behind it
 abbrev pub Reader : Type 0 → Type 0
 Reader A = List Token → Option (A × List Token)
+
+-- What is found, taken for what it means, is what the reader gives for these tokens.
+abbrev pub Gives : {A B : Type 0} → (A → B) → Reader B → List Token → Option (Read A) → Type 0
+Gives meaning reader ts found = option_map (λ x. (meaning x.value, x.rest.now)) found ≡ reader ts
+
+-- What is found is what the reader gives for these tokens, and fewer tokens are left.
+abbrev pub ReadsAs : {A B : Type 0} → (A → B) → Reader B → List Token → Option (Read A) → Type 0
+ReadsAs meaning reader ts found = Gives meaning reader ts found × IfSome found (λ x. length x.rest.now < length ts)
+
+-- the same, where what is found means itself
+abbrev pub Reads : {A : Type 0} → Reader A → List Token → Option (Read A) → Type 0
+Reads reader ts found = ReadsAs (λ x. x) reader ts found
+
+-- What is found is what the reader gives for these tokens, which may take none of them.
+abbrev pub ReadsMaybe : {A : Type 0} → Reader A → List Token → Option (Read A) → Type 0
+ReadsMaybe reader ts found = Gives (λ x. x) reader ts found × IfSome found (λ x. length x.rest.now ≤ length ts)
+
+-- The tokens that are left are those that a step leaves of these, and fewer.
+abbrev pub Passes : (List Token → Option (List Token)) → List Token → Option (Bor (List Token)) → Type 0
+Passes step ts left = (option_map (λ rest. rest.now) left ≡ step ts) × IfSome left (λ rest. length rest.now < length ts)
 
 -- a step, and where it gives something the next
 infixl 10 ◌>>=◌
@@ -33,6 +57,12 @@ is_sign_kind sign (Sign n) = n == sign
 abbrev pub after_sign : ℕ → List Token → Option (List Token)
 after_sign sign [] = None
 after_sign sign (t ∷ ts) = if is_sign_kind sign t.kind then Some ts else None
+
+-- the tokens behind what stands between two items
+abbrev pub past : Separator → List Token → Option (List Token)
+past Nothing ts = Some ts
+past Comma ts = after_sign COMMA ts
+past MaybeComma ts = option_or (after_sign COMMA ts) (Some ts)
 
 -- any word, a reserved one too
 abbrev pub word_at : Reader (List ℕ)
@@ -67,19 +97,41 @@ is_end [] = true
 is_end (t ∷ []) = is_sign_kind SEMICOLON t.kind
 is_end _ = false
 
+-- an item behind what stands before it
+abbrev pub next_at : {A : Type 0} → (List Token → Option (List Token)) → Reader A → Reader A
+next_at after item ts = after ts >>= item
+
 -- one item more, or none
 abbrev pub next_of : {A : Type 0} → List Token → (List Token → List A × List Token) → Option (A × List Token) → List A × List Token
 next_of here others None = ([], here)
 next_of here others (Some x) = (x.0 ∷ (others x.1).0, (others x.1).1)
 
--- a separator and an item as often as they come, at most so many times
+-- items behind what stands before each, as often as they come, at most so many times
 unfoldable pub more_at : {A : Type 0} → (List Token → Option (List Token)) → Reader A → ℕ → List Token → List A × List Token
 more_at after item zero ts = ([], ts)
-more_at after item (suc most) ts = next_of ts (more_at after item most) (after ts >>= item)
+more_at after item (suc most) ts = next_of ts (more_at after item most) (next_at after item ts)
 
--- An item, and a separator and an item as often as they come: more often than there are tokens they can't.
+-- some items before those that are read
+abbrev pub gathered : {A : Type 0} → List A → List A × List Token → List A × List Token
+gathered front x = (front ++ x.0, x.1)
+
+-- Some items, and behind them as many as follow: more often than there are tokens they can't.
+abbrev pub all_at : {A : Type 0} → (List Token → Option (List Token)) → Reader A → List A → Reader (List A)
+all_at after item front ts = Some (gathered front (more_at after item (length ts) ts))
+
+-- item {separator item}
 unfoldable pub items_at : {A : Type 0} → (List Token → Option (List Token)) → Reader A → Reader (List A)
-items_at after item ts = item ts >>= λ x. Some (x.0 ∷ (more_at after item (length x.1) x.1).0, (more_at after item (length x.1) x.1).1)
+items_at after item ts = item ts >>= λ x. all_at after item (x.0 ∷ []) x.1
+
+-- {separator item}
+abbrev pub many_at : {A : Type 0} → (List Token → Option (List Token)) → Reader A → Reader (List A)
+many_at after item ts = all_at after item [] ts
+
+-- "(" item {"," item} ")"
+abbrev pub enclosed_at : {A : Type 0} → Reader A → Reader (List A)
+enclosed_at item ts =
+    after_sign OPEN ts >>= λ behind. items_at (after_sign COMMA) item behind >>= λ list. after_sign CLOSE list.1 >>= λ rest.
+    Some (list.0, rest)
 
 -- what tokens give, where they are all of the text
 abbrev pub of_whole : {A : Type 0} → (List Token → Option A) → List Token → Option ℕ → Option A

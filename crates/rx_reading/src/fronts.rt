@@ -1,13 +1,12 @@
-ghost use Rattle.std.specs.Prelude.{◌≡◌, ◌<◌, length, IfSome};
-ghost use Rattle.std.specs.Option.{option_map};
-ghost use Rattle.rx_reading.specs.Reading.{after_word, is_sign_kind, after_sign, is_text_kind, is_name, name_at, text_at, word_at, is_end};
+ghost use Rattle.std.specs.Prelude.{◌≡◌};
+ghost use Rattle.rx_reading.specs.Reading.{Passes, ReadsAs, after_word, is_sign_kind, after_sign, is_text_kind, is_name, name_at, text_at, word_at, is_end};
 
+use crate::read::Read;
 use rx_token::{Token, TokenKind, is_reserved, is_word, signs};
 
 /// The tokens behind a word, which is compared without ASCII case and has no quotes.
 pub fn after_word<'a>(tokens: &'a [Token], word: &[u8]) -> Option<&'a [Token]>
-    ensures value { option_map (λ rest. rest.now) result ≡ after_word word.now tokens.now }
-    ensures shorter { IfSome result (λ rest. length rest.now < length tokens.now) }
+    ensures { Passes (after_word word.now) tokens.now result }
 {
     let [token, rest @ ..] = tokens else {
         return None;
@@ -30,8 +29,7 @@ fn is_sign_kind(kind: TokenKind, sign: u8) -> bool
 
 /// The tokens behind a sign, by its number in `rx_token::signs`.
 pub fn after_sign(tokens: &[Token], sign: u8) -> Option<&[Token]>
-    ensures value { option_map (λ rest. rest.now) result ≡ after_sign sign tokens.now }
-    ensures shorter { IfSome result (λ rest. length rest.now < length tokens.now) }
+    ensures { Passes (after_sign sign) tokens.now result }
 {
     let [token, rest @ ..] = tokens else {
         return None;
@@ -44,15 +42,17 @@ pub fn after_sign(tokens: &[Token], sign: u8) -> Option<&[Token]>
 }
 
 /// Any word at the front, a reserved one too, and the tokens behind it.
-pub fn word_at(tokens: &[Token]) -> Option<(&[u8], &[Token])>
-    ensures value { option_map (λ x. (x.0.now, x.1.now)) result ≡ word_at tokens.now }
-    ensures shorter { IfSome result (λ x. length x.1.now < length tokens.now) }
+pub fn word_at<'a>(tokens: &'a [Token]) -> Option<Read<'a, &'a [u8]>>
+    ensures { ReadsAs (λ text. text.now) word_at tokens.now result }
 {
     let [token, rest @ ..] = tokens else {
         return None;
     };
     if matches!(token.kind, TokenKind::Word) {
-        return Some((token.text.as_slice(), rest));
+        return Some(Read {
+            value: token.text.as_slice(),
+            rest,
+        });
     }
     None
 }
@@ -68,15 +68,17 @@ fn is_name(token: &Token) -> bool
 }
 
 /// A name at the front, between backquotes or a word that isn't reserved, and the tokens behind it.
-pub fn name_at(tokens: &[Token]) -> Option<(&[u8], &[Token])>
-    ensures value { option_map (λ x. (x.0.now, x.1.now)) result ≡ name_at tokens.now }
-    ensures shorter { IfSome result (λ x. length x.1.now < length tokens.now) }
+pub fn name_at<'a>(tokens: &'a [Token]) -> Option<Read<'a, &'a [u8]>>
+    ensures { ReadsAs (λ text. text.now) name_at tokens.now result }
 {
     let [token, rest @ ..] = tokens else {
         return None;
     };
     if is_name(token) {
-        return Some((token.text.as_slice(), rest));
+        return Some(Read {
+            value: token.text.as_slice(),
+            rest,
+        });
     }
     None
 }
@@ -88,15 +90,17 @@ fn is_text_kind(kind: TokenKind) -> bool
 }
 
 /// A text between quotes at the front, decoded, and the tokens behind it.
-pub fn text_at(tokens: &[Token]) -> Option<(&[u8], &[Token])>
-    ensures value { option_map (λ x. (x.0.now, x.1.now)) result ≡ text_at tokens.now }
-    ensures shorter { IfSome result (λ x. length x.1.now < length tokens.now) }
+pub fn text_at<'a>(tokens: &'a [Token]) -> Option<Read<'a, &'a [u8]>>
+    ensures { ReadsAs (λ text. text.now) text_at tokens.now result }
 {
     let [token, rest @ ..] = tokens else {
         return None;
     };
     if is_text_kind(token.kind) {
-        return Some((token.text.as_slice(), rest));
+        return Some(Read {
+            value: token.text.as_slice(),
+            rest,
+        });
     }
     None
 }

@@ -1,7 +1,7 @@
 -- The words that are names only between quotes.
 use Rattle.std.specs.Prelude.{ℕ, Bool, true, false, ◌&&◌, List, [], ◌∷◌, codes}
 use Rattle.std.specs.List.{list_any}
-use Rattle.std.specs.Str.{str_eq_ignore_ascii_case}
+use Rattle.rx_value.specs.Names.{same_name}
 use Rattle.rx_token.specs.declared.kinds.Token.{Token}
 use Rattle.rx_token.specs.declared.kinds.TokenKind.{TokenKind}
 use Rattle.rx_token.specs.declared.kinds.TokenKind.TheVariants.{Word, Quoted, Number, Str, Sign}
@@ -17,7 +17,7 @@ reserved =
 
 -- one of the reserved words, without ASCII case
 unfoldable pub is_reserved : List ℕ → Bool
-is_reserved word = list_any (str_eq_ignore_ascii_case word) reserved
+is_reserved word = list_any (same_name word) reserved
 
 -- the kind of a word without quotes
 abbrev pub is_word_kind : TokenKind → Bool
@@ -29,4 +29,4 @@ is_word_kind (Sign n) = false
 
 -- a token is this word without quotes, without ASCII case
 unfoldable pub is_word_of : List ℕ → Token → Bool
-is_word_of word token = is_word_kind token.kind && str_eq_ignore_ascii_case token.text word
+is_word_of word token = is_word_kind token.kind && same_name token.text word

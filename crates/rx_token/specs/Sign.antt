@@ -1,6 +1,6 @@
 -- The signs.
-use Rattle.std.specs.Prelude.{ℕ, List, [], ◌∷◌, length, filter, Option, Some, None, nat_eq, nat_lt, codes, if◌then◌else◌}
-use Rattle.std.specs.List.{starts_with}
+use Rattle.std.specs.Prelude.{◌≡◌, ℕ, Bool, true, not, ◌&&◌, List, [], ◌∷◌, length, filter, map, Option, Some, None, nat_eq, nat_lt, codes, if◌then◌else◌}
+use Rattle.std.specs.List.{starts_with, list_any}
 use Rattle.rx_token.specs.declared.signs.TheConstants.{OPEN, CLOSE, COMMA, SEMICOLON, STAR, EQUAL, SAFE_EQUAL, LESS, AT_MOST, MORE, AT_LEAST, UNEQUAL, DIFFERENT, PLUS, MINUS}
 
 -- each sign by its number, with its spelling
@@ -10,6 +10,15 @@ signs =
     ∷ (STAR, codes "*") ∷ (EQUAL, codes "=") ∷ (SAFE_EQUAL, codes "<=>") ∷ (LESS, codes "<")
     ∷ (AT_MOST, codes "<=") ∷ (MORE, codes ">") ∷ (AT_LEAST, codes ">=")
     ∷ (UNEQUAL, codes "<>") ∷ (DIFFERENT, codes "!=") ∷ (PLUS, codes "+") ∷ (MINUS, codes "-") ∷ []
+
+-- no number stands in a list twice
+abbrev pub all_differ : List ℕ → Bool
+all_differ [] = true
+all_differ (n ∷ ns) = not (list_any (nat_eq n) ns) && all_differ ns
+
+-- no two signs have one number
+abbrev pub NumbersDiffer : Type 0
+NumbersDiffer = all_differ (map (λ sign. sign.0) signs) ≡ true
 
 -- the signs that the bytes begin with
 abbrev pub fitting : List ℕ → List (ℕ × List ℕ)

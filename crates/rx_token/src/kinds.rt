@@ -1,8 +1,4 @@
-ghost use Rattle.std.specs.Prelude.{◌≡◌, [], ◌∷◌, ◌++◌, OnOk, OnErr};
-
-use rx_value::Bytes;
-use std::alloc::{AllocError, Global};
-use std::marker::Model;
+use rx_value::{Bytes, List};
 
 /// What a token is.
 #[derive(Clone, Copy, Debug, PartialEq, Eq)]
@@ -20,7 +16,7 @@ pub enum TokenKind {
 }
 
 /// A token of a text.
-#[derive(Debug, Drop)]
+#[derive(Drop)]
 pub struct Token {
     pub kind: TokenKind,
     /// Where it begins, in bytes from the start of the text.
@@ -32,49 +28,10 @@ pub struct Token {
 }
 
 /// Tokens in order.
-#[derive(Debug, Drop)]
-pub struct TokenList {
-    items: Vec<Token>,
-}
-
-impl Model for TokenList {
-    ghost use Rattle.std.specs.Prelude.{List};
-    ghost use Rattle.rx_token.specs.declared.kinds.Token.{Token};
-
-    ghost Value = { List Token };
-
-    ghost view = { λ b. b.items.items };
-}
-
-impl TokenList {
-    /// The empty list. Takes no memory.
-    pub fn new(alloc: Global) -> TokenList
-        ensures { result ≡ [] }
-    {
-        TokenList {
-            items: Vec::new(alloc),
-        }
-    }
-
-    /// Adds an item at the end. A refused call leaves the list.
-    pub fn push(&mut self, item: Token) -> Result<(), AllocError>
-        ensures ok { OnOk result (self.new ≡ self.old ++ item ∷ []) }
-        ensures err { OnErr result (self.new ≡ self.old) }
-    {
-        self.items.push(item)?;
-        Ok(())
-    }
-
-    /// The items in order.
-    pub fn as_slice(&self) -> &[Token]
-        ensures { result.now ≡ self.now }
-    {
-        self.items.as_slice()
-    }
-}
+pub type TokenList = List<Token>;
 
 /// The tokens of a text up to the first place where none fits.
-#[derive(Debug, Drop)]
+#[derive(Drop)]
 pub struct Scanned {
     pub list: TokenList,
     /// That place, in bytes from the start of the text; None where the tokens reach the end.

@@ -1,3 +1,5 @@
+ghost use Rattle.rx_token.specs.Sign.{NumbersDiffer};
+
 /// The number of `(`.
 pub const OPEN: u8 = 0;
 /// The number of `)`.
@@ -28,3 +30,8 @@ pub const DIFFERENT: u8 = 12;
 pub const PLUS: u8 = 13;
 /// The number of `-`.
 pub const MINUS: u8 = 14;
+
+/// No two signs have one number.
+pub fn numbers_differ()
+    ensures { NumbersDiffer }
+{}
