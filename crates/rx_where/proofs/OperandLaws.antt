@@ -4,12 +4,13 @@ use Rattle.std.specs.Option.{option_and_then, option_or}
 use Rattle.rx_value.specs.declared.values.Value.{Value}
 use Rattle.rx_value.specs.declared.values.Value.TheVariants as value
 use Rattle.rx_token.specs.declared.kinds.Token.{Token}
-use Rattle.rx_token.specs.declared.signs.TheConstants.{PLUS, MINUS, OPEN, CLOSE, COMMA}
+use Rattle.rx_token.specs.declared.signs.TheConstants.{PLUS, MINUS, CLOSE, COMMA}
 use Rattle.rx_token.specs.Reserved.{is_word_of, is_reserved}
-use Rattle.rx_reading.specs.Reading.{after_word, after_sign, name_at, text_at, items_at, is_sign_kind, is_name, is_text_kind}
-use Rattle.rx_reading.specs.Forms.{One, ◌>>◌, Word, Sign, Name, Text, Listed, values, SpellsListed}
+use Rattle.rx_reading.specs.Reading.{after_word, after_sign, name_at, text_at, is_sign_kind, is_name, is_text_kind}
+use Rattle.rx_reading.specs.Forms.{One, Word, Sign, Name, Text, Listed, values}
 use Rattle.rx_reading.proofs.Steps.{stepped, then_gives, then_none, one_of, first_gives, second_gives, same_value}
-use Rattle.rx_reading.proofs.Spelled.{Forward, one_forward, then_forward, listed_forward, behind_short, word_spelled, word_read, sign_spelled, sign_read, name_spelled, name_read, text_spelled, text_read, Read, items_spelled, listed_read}
+use Rattle.rx_reading.proofs.Enclosed.{enclosed_forward, enclosed_spelled, enclosed_read}
+use Rattle.rx_reading.proofs.Spelled.{Forward, one_forward, then_forward, behind_short, word_spelled, word_read, sign_spelled, sign_read, name_spelled, name_read, text_spelled, text_read, Read}
 use Rattle.rx_where.specs.declared.raw.RawOperand.{RawOperand}
 use Rattle.rx_where.specs.declared.raw.RawOperand.TheVariants as of
 use Rattle.rx_where.specs.Operands.{whole_of, whole_at, plus_at, minus_at, number_at, null_at, constant_at, operand_at, constants_at}
@@ -247,9 +248,7 @@ operand_forward (name text) = name_forward text
 operand_forward (constant c) = constant_forward c
 
 pub constants_forward : (list : Listed Constant) → Forward (SpellsConstants list)
-constants_forward list =
-    then_forward (Sign OPEN) (SpellsListed (Sign COMMA) SpellsConstant list >> Sign CLOSE) (sign_forward OPEN)
-    (then_forward (SpellsListed (Sign COMMA) SpellsConstant list) (Sign CLOSE) (listed_forward (Sign COMMA) SpellsConstant (sign_forward COMMA) constant_forward list) (sign_forward CLOSE))
+constants_forward list = enclosed_forward SpellsConstant constant_forward list
 
 pub word_short : (w : List ℕ) (ts mid : List Token) → after_word w ts ≡ Some mid → length mid < length ts
 word_short w ts mid e = behind_short (Word w) ts mid (word_forward w ts mid (word_spelled w ts mid e))
@@ -264,31 +263,13 @@ constant_short ts x e = let r = constant_spelled ts x e in behind_short (SpellsC
 pub close_no_comma : (ts rest : List Token) → Sign CLOSE ts rest → after_sign COMMA ts ≡ None
 close_no_comma ts rest s = no_sign COMMA ts (first_free (lead.sign COMMA) [] ts (free (lead.sign CLOSE) (lead.sign COMMA ∷ []) ts refl (begins_sign CLOSE ts rest s)))
 
-abbrev close_values : List Value × List Token → Option (List Value × List Token)
-close_values list = option_and_then (λ (rest : List Token). Some (found list.0 rest)) (after_sign CLOSE list.1)
-
-abbrev open_values : List Token → Option (List Value × List Token)
-open_values behind = option_and_then close_values (items_at (after_sign COMMA) constant_at behind)
-
 abbrev pub ConstantsRead : List Token → List Value × List Token → Type 0
 ConstantsRead ts x = Read SpellsConstants (values constant_value) ts x
 
 pub constants_spelled : (ts : List Token) (x : List Value × List Token) → constants_at ts ≡ Some x → ConstantsRead ts x
 unfolding constants_at
-constants_spelled ts x e =
-    let (behind, opened, e1) = stepped open_values (after_sign OPEN ts) x e in
-    let (list, read, e2) = stepped close_values (items_at (after_sign COMMA) constant_at behind) x e1 in
-    let (rest, close, same) = stepped (λ (rest : List Token). Some (found list.0 rest)) (after_sign CLOSE list.1) x e2 in
-    let all = items_spelled (after_sign COMMA) (Sign COMMA) constant_at SpellsConstant constant_value (sign_spelled COMMA) constant_spelled behind list read in
-    subst (ConstantsRead ts) (same_value (found list.0 rest) x same) (record {
-      form = all.form;
-      spelled = (behind, sign_spelled OPEN ts behind opened, (list.1, all.spelled, sign_spelled CLOSE list.1 rest close));
-      stands = all.stands;
-    })
+constants_spelled ts x e = enclosed_spelled constant_at SpellsConstant constant_value constant_spelled ts x e
 
 pub constants_read : (list : Listed Constant) (ts rest : List Token) → SpellsConstants list ts rest → constants_at ts ≡ Some (found (values constant_value list) rest)
 unfolding constants_at
-constants_read list ts rest (behind, opened, (end, items, close)) =
-    then_gives open_values (sign_read OPEN ts behind opened)
-    (then_gives close_values (listed_read (after_sign COMMA) (Sign COMMA) constant_at SpellsConstant constant_value (sign_short COMMA) constant_short (sign_read COMMA) constant_read list behind end items (close_no_comma end rest close))
-    (then_gives (λ (rest : List Token). Some (found (values constant_value list) rest)) (sign_read CLOSE end rest close) refl))
+constants_read list ts rest s = enclosed_read constant_at SpellsConstant constant_value (sign_short COMMA) constant_short constant_read close_no_comma list ts rest s

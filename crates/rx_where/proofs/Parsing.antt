@@ -71,8 +71,8 @@ record Place (tokens rest : List Token) (at : ℕ) : Type 0 where
   pub is : rest ≡ drop (length tokens - length rest) tokens
   pub later : at < length tokens - length rest
 
-place_of : (tokens : List Token) (at : ℕ) (tree : RawTree) (rest : List Token) → at ≤ length tokens → IsCond (drop at tokens) tree rest → Place tokens rest at
-place_of tokens at tree rest le (c, depth, s, stands) =
+place_of : (tokens : List Token) (at : ℕ) (tree : RawTree) (rest : List Token) → IsCond (drop at tokens) tree rest → Place tokens rest at
+place_of tokens at tree rest (c, depth, s, stands) =
     let b = cond_forward c (drop at tokens) rest s in
     let whole : List Token = b.first ∷ b.front in
     let counted : length tokens - at ≡ length whole + length rest = sym (length-drop at tokens) ∙ ap length b.is ∙ length-append whole rest in
@@ -83,15 +83,15 @@ place_of tokens at tree rest le (c, depth, s, stands) =
     }
 
 -- the same of all the tokens, by numbers of tokens
-module _ (tokens here : List Token) (at : ℕ) (tree : RawTree) (rest : List Token) (le : at ≤ length tokens) (cut : here ≡ drop at tokens) (read : Some (pair tree rest) ≡ longest_at here) where
+module _ (tokens here : List Token) (at : ℕ) (tree : RawTree) (rest : List Token) (cut : here ≡ drop at tokens) (read : Some (pair tree rest) ≡ longest_at here) where
   read_at : longest_at (drop at tokens) ≡ Some (pair tree rest)
   read_at = ap longest_at (sym cut) ∙ sym read
 
   place : Place tokens rest at
-  place = place_of tokens at tree rest le (found_of (drop at tokens) (pair tree rest) read_at)
+  place = place_of tokens at tree rest (found_of (drop at tokens) (pair tree rest) read_at)
 
-  pub parse_ends : at < length tokens - length rest
-  parse_ends = let p = place in p.later
+  pub parse_ends : (at < length tokens - length rest) × (length tokens - length rest ≤ length tokens)
+  parse_ends = let p = place in (p.later, omega arith)
 
   pub parse_found : IsCond (drop at tokens) tree (drop (length tokens - length rest) tokens)
   parse_found = let p = place in subst (IsCond (drop at tokens) tree) p.is (found_of (drop at tokens) (pair tree rest) read_at)

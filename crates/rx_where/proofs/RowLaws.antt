@@ -6,13 +6,14 @@ use Rattle.std.proofs.lemmas.Bool.Decides.{Decides-eqb, Decides-ltb}
 use Rattle.std.proofs.lemmas.Option.{cond_some}
 use Rattle.rx_value.specs.declared.values.Value.{Value}
 use Rattle.rx_token.specs.declared.kinds.Token.{Token}
-use Rattle.rx_token.specs.declared.signs.TheConstants.{OPEN, CLOSE, COMMA}
-use Rattle.rx_reading.specs.Reading.{after_word, after_sign, name_at, items_at}
-use Rattle.rx_reading.specs.Forms.{Form, ◌>>◌, Word, Sign, Name, Listed, last, before, values, SpellsListed}
+use Rattle.rx_token.specs.declared.signs.TheConstants.{COMMA}
+use Rattle.rx_reading.specs.Reading.{Reader, after_word, name_at, enclosed_at}
+use Rattle.rx_reading.specs.Forms.{Form, ◌>>◌, Word, Name, Listed, last, before, values, SpellsEnclosed}
 use Rattle.rx_reading.proofs.Steps.{stepped, then_gives, then_none, one_of, first_gives, second_gives, same_value}
-use Rattle.rx_reading.proofs.Spelled.{behind_short, word_spelled, word_read, sign_spelled, sign_read, name_spelled, name_read, Read, items_spelled, listed_read}
+use Rattle.rx_reading.proofs.Enclosed.{enclosed_spelled, enclosed_read}
+use Rattle.rx_reading.proofs.Spelled.{behind_short, word_spelled, word_read, name_spelled, name_read, Read}
 use Rattle.rx_where.specs.Operands.{constants_at}
-use Rattle.rx_where.specs.Rows.{names_at, tuple_at, tuples_at, row_list_at, not_row_list_at, row_test_at}
+use Rattle.rx_where.specs.Rows.{names_at, tuple_at, row_list_at, not_row_list_at, row_test_at}
 use Rattle.rx_where.specs.Raw.{RawTree}
 use Rattle.rx_where.specs.Raw as raw
 use Rattle.rx_where.specs.Grammar.{Constant, constant_value, SpellsConstants, SpellsTuple, Sense, plain, negated, WithNot, with_not, rows, row_names, SpellsTest, test_tree}
@@ -34,43 +35,34 @@ name_short ts x e = behind_short (Name x.0) ts x.1 (name_forward x.0 ts x.1 (nam
 record NamesRead (ts : List Token) (x : List (List ℕ) × List Token) : Type 0 where
   first : List ℕ
   others : Listed (List ℕ)
-  spelled : (Sign OPEN >> SpellsListed (Sign COMMA) Name (before first others) >> Sign CLOSE) ts x.1
+  spelled : SpellsEnclosed Name (before first others) ts x.1
   stands : row_names first others ≡ x.0
 
-abbrev pub if_several : List (List ℕ) → List Token → Option (List (List ℕ) × List Token)
-if_several list rest = cond (nat_lt 1 (length list)) (Some (found list rest)) None
+abbrev pub if_several : List (List ℕ) × List Token → Option (List (List ℕ) × List Token)
+if_several names = cond (nat_lt 1 (length names.0)) (Some names) None
 
-abbrev pub close_names : List (List ℕ) × List Token → Option (List (List ℕ) × List Token)
-close_names names = option_and_then (if_several names.0) (after_sign CLOSE names.1)
-
-abbrev pub open_names : List Token → Option (List (List ℕ) × List Token)
-open_names behind = option_and_then close_names (items_at (after_sign COMMA) name_at behind)
-
-several : (list : Listed (List ℕ)) (ts mid end rest : List Token) (x : List (List ℕ) × List Token) → Sign OPEN ts mid → SpellsListed (Sign COMMA) Name list mid end → Sign CLOSE end rest → if_several (values itself list) rest ≡ Some x → NamesRead ts x
-several (last n) ts mid end rest x opened s closed e = absurd cc
-several (before n others) ts mid end rest x opened s closed e =
+several : (list : Listed (List ℕ)) (ts rest : List Token) (x : List (List ℕ) × List Token) → SpellsEnclosed Name list ts rest → if_several (found (values itself list) rest) ≡ Some x → NamesRead ts x
+several (last n) ts rest x s e = absurd cc
+several (before n others) ts rest x s e =
     let (b, same) = cond_some (nat_lt 1 (length (values itself (before n others)))) (found (values itself (before n others)) rest) x e in
-    subst (NamesRead ts) same (record { first = n; others = others; spelled = (mid, opened, (end, s, closed)); stands = refl })
+    subst (NamesRead ts) same (record { first = n; others = others; spelled = s; stands = refl })
 
 names_spelled : (ts : List Token) (x : List (List ℕ) × List Token) → names_at ts ≡ Some x → NamesRead ts x
 unfolding names_at
 names_spelled ts x e =
-    let (mid, opened, e1) = stepped open_names (after_sign OPEN ts) x e in
-    let (list, read, e2) = stepped close_names (items_at (after_sign COMMA) name_at mid) x e1 in
-    let (rest, closed, e3) = stepped (if_several list.0) (after_sign CLOSE list.1) x e2 in
-    let all = items_spelled (after_sign COMMA) (Sign COMMA) name_at Name itself (sign_spelled COMMA) one_name mid list read in
-    several all.form ts mid list.1 rest x (sign_spelled OPEN ts mid opened) all.spelled (sign_spelled CLOSE list.1 rest closed) (ap (λ (names : List (List ℕ)). if_several names rest) all.stands ∙ e3)
+    let (names, read, e1) = stepped if_several (enclosed_at name_at ts) x e in
+    let all = enclosed_spelled name_at Name itself one_name ts names read in
+    several all.form ts names.1 x all.spelled (ap (λ (list : List (List ℕ)). if_several (found list names.1)) all.stands ∙ e1)
 
 more_than_one : (n : List ℕ) (others : Listed (List ℕ)) → nat_lt 1 (length (row_names n others)) ≡ true
 more_than_one n (last m) = refl
 more_than_one n (before m others) = (Decides-ltb 1 (length (row_names n (before m others)))).1 (omega arith)
 
-names_read : (n : List ℕ) (others : Listed (List ℕ)) (ts rest : List Token) → (Sign OPEN >> SpellsListed (Sign COMMA) Name (before n others) >> Sign CLOSE) ts rest → names_at ts ≡ Some (found (row_names n others) rest)
+names_read : (n : List ℕ) (others : Listed (List ℕ)) (ts rest : List Token) → SpellsEnclosed Name (before n others) ts rest → names_at ts ≡ Some (found (row_names n others) rest)
 unfolding names_at
-names_read n others ts rest (mid, opened, (end, s, closed)) =
-    then_gives open_names (sign_read OPEN ts mid opened)
-    (then_gives close_names (listed_read (after_sign COMMA) (Sign COMMA) name_at Name itself (sign_short COMMA) name_short (sign_read COMMA) name_read (before n others) mid end s (close_no_comma end rest closed))
-    (then_gives (if_several (row_names n others)) (sign_read CLOSE end rest closed) (ap (λ (b : Bool). cond b (Some (found (row_names n others) rest)) None) (more_than_one n others))))
+names_read n others ts rest s =
+    then_gives if_several (enclosed_read name_at Name itself (sign_short COMMA) name_short name_read close_no_comma (before n others) ts rest s)
+    (ap (λ (b : Bool). cond b (Some (found (row_names n others) rest)) None) (more_than_one n others))
 
 -- tuples
 abbrev if_as_long : ℕ → List Value × List Token → Option (List Value × List Token)
@@ -97,33 +89,17 @@ tuple_short : (count : ℕ) (ts : List Token) (x : List Value × List Token) →
 tuple_short count ts x e = let r = tuple_spelled count ts x e in behind_short (SpellsConstants r.form) ts x.1 (constants_forward r.form ts x.1 r.spelled.1)
 
 abbrev SpellsTuples : ℕ → Listed (Listed Constant) → Form
-SpellsTuples count list = Sign OPEN >> SpellsListed (Sign COMMA) (SpellsTuple count) list >> Sign CLOSE
+SpellsTuples count list = SpellsEnclosed (SpellsTuple count) list
 
-abbrev close_tuples : List (List Value) × List Token → Option (List (List Value) × List Token)
-close_tuples list = option_and_then (λ (rest : List Token). Some (found list.0 rest)) (after_sign CLOSE list.1)
-
-abbrev open_tuples : ℕ → List Token → Option (List (List Value) × List Token)
-open_tuples count behind = option_and_then close_tuples (items_at (after_sign COMMA) (tuple_at count) behind)
+abbrev tuples_at : ℕ → Reader (List (List Value))
+tuples_at count ts = enclosed_at (tuple_at count) ts
 
 tuples_spelled : (count : ℕ) (ts : List Token) (x : List (List Value) × List Token) → tuples_at count ts ≡ Some x → Read (SpellsTuples count) (values (values constant_value)) ts x
-unfolding tuples_at
-tuples_spelled count ts x e =
-    let (mid, opened, e1) = stepped (open_tuples count) (after_sign OPEN ts) x e in
-    let (list, read, e2) = stepped close_tuples (items_at (after_sign COMMA) (tuple_at count) mid) x e1 in
-    let (rest, closed, same) = stepped (λ (rest : List Token). Some (found list.0 rest)) (after_sign CLOSE list.1) x e2 in
-    let all = items_spelled (after_sign COMMA) (Sign COMMA) (tuple_at count) (SpellsTuple count) (values constant_value) (sign_spelled COMMA) (tuple_spelled count) mid list read in
-    subst (Read (SpellsTuples count) (values (values constant_value)) ts) (same_value (found list.0 rest) x same) (record {
-      form = all.form;
-      spelled = (mid, sign_spelled OPEN ts mid opened, (list.1, all.spelled, sign_spelled CLOSE list.1 rest closed));
-      stands = all.stands;
-    })
+tuples_spelled count ts x e = enclosed_spelled (tuple_at count) (SpellsTuple count) (values constant_value) (tuple_spelled count) ts x e
 
 tuples_read : (count : ℕ) (list : Listed (Listed Constant)) (ts rest : List Token) → SpellsTuples count list ts rest → tuples_at count ts ≡ Some (found (values (values constant_value) list) rest)
-unfolding tuples_at
-tuples_read count list ts rest (mid, opened, (end, s, closed)) =
-    then_gives (open_tuples count) (sign_read OPEN ts mid opened)
-    (then_gives close_tuples (listed_read (after_sign COMMA) (Sign COMMA) (tuple_at count) (SpellsTuple count) (values constant_value) (sign_short COMMA) (tuple_short count) (sign_read COMMA) (tuple_read count) list mid end s (close_no_comma end rest closed))
-    (then_gives (λ (rest : List Token). Some (found (values (values constant_value) list) rest)) (sign_read CLOSE end rest closed) refl))
+tuples_read count list ts rest s =
+    enclosed_read (tuple_at count) (SpellsTuple count) (values constant_value) (sign_short COMMA) (tuple_short count) (tuple_read count) close_no_comma list ts rest s
 
 -- IN and tuples
 abbrev SpellsRows : ℕ → Listed (Listed Constant) → Form
@@ -165,9 +141,9 @@ abbrev pub rows_step : List (List ℕ) × List Token → Option (RawTree × List
 rows_step names = option_or (not_row_list_at names.0 names.1) (row_list_at names.0 names.1)
 
 -- a row test, by what stands behind its names
-rows_spelled : (first : List ℕ) (others : Listed (List ℕ)) (ts here : List Token) → (Sign OPEN >> SpellsListed (Sign COMMA) Name (before first others) >> Sign CLOSE) ts here → (x : RawTree × List Token) → rows_step (row_names first others, here) ≡ Some x → TestRead ts x
+rows_spelled : (first : List ℕ) (others : Listed (List ℕ)) (ts here : List Token) → SpellsEnclosed Name (before first others) ts here → (x : RawTree × List Token) → rows_step (row_names first others, here) ≡ Some x → TestRead ts x
 unfolding not_row_list_at
-rows_spelled first others ts here (mid, opened, (end, s, closed)) x e =
+rows_spelled first others ts here s x e =
     ⊎_elim
     (λ f.
     let (behind, word, e1) = stepped (not_in_step (row_names first others)) (after_word (codes "NOT") here) x f in
@@ -175,14 +151,14 @@ rows_spelled first others ts here (mid, opened, (end, s, closed)) x e =
     let r = row_list_spelled (row_names first others) behind y read in
     subst (TestRead ts) (same_value (found (raw.neg y.0) y.1) x same) (record {
       form = rows negated first others r.form;
-      spelled = (mid, opened, (end, s, (here, closed, (behind, word_spelled (codes "NOT") here behind word, r.spelled))));
+      spelled = (here, s, (behind, word_spelled (codes "NOT") here behind word, r.spelled));
       stands = ap raw.neg r.stands;
     }))
     (λ f.
     let r = row_list_spelled (row_names first others) here x f in
     record {
       form = rows plain first others r.form;
-      spelled = (mid, opened, (end, s, (here, closed, r.spelled)));
+      spelled = (here, s, r.spelled);
       stands = r.stands;
     })
     (one_of (not_row_list_at (row_names first others) here) (row_list_at (row_names first others) here) x e)
@@ -204,5 +180,5 @@ behind_names negated names list here rest (mid, word, s) =
 
 pub row_test_read : (sense : Sense) (first : List ℕ) (others : Listed (List ℕ)) (tuples : Listed (Listed Constant)) (ts rest : List Token) → SpellsTest (rows sense first others tuples) ts rest → row_test_at ts ≡ Some (found (test_tree (rows sense first others tuples)) rest)
 unfolding row_test_at
-row_test_read sense first others tuples ts rest (mid, opened, (end, s, (here, closed, t))) =
-    then_gives rows_step (names_read first others ts here (mid, opened, (end, s, closed))) (behind_names sense (row_names first others) tuples here rest t)
+row_test_read sense first others tuples ts rest (here, s, t) =
+    then_gives rows_step (names_read first others ts here s) (behind_names sense (row_names first others) tuples here rest t)

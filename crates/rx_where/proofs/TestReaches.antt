@@ -4,11 +4,12 @@ use Rattle.std.specs.Option.{option_and_then, option_or}
 use Rattle.rx_token.specs.declared.kinds.Token.{Token}
 use Rattle.rx_token.specs.declared.signs.TheConstants.{PLUS, MINUS, OPEN, CLOSE, COMMA}
 use Rattle.rx_token.specs.Reserved.{is_reserved}
-use Rattle.rx_reading.specs.Reading.{Reader, after_word, after_sign, items_at, more_at}
-use Rattle.rx_reading.specs.Forms.{Form, ◌>>◌, Word, Sign, Name, Text, Listed, before, SpellsListed}
+use Rattle.rx_reading.specs.Reading.{Reader, after_word, after_sign, name_at, items_at, more_at}
+use Rattle.rx_reading.specs.Forms.{Form, ◌>>◌, Word, Name, Text, Listed, before, SpellsEnclosed}
 use Rattle.rx_reading.proofs.Farther.{Reaches}
 use Rattle.rx_reading.proofs.Steps.{then_gives, then_none, one_of, first_gives, second_gives}
-use Rattle.rx_reading.proofs.Spelled.{Forward, one_forward, then_forward, listed_forward, word_read, sign_read}
+use Rattle.rx_reading.proofs.Enclosed.{enclosed_forward, no_enclosed}
+use Rattle.rx_reading.proofs.Spelled.{Forward, one_forward, then_forward, word_read, sign_read}
 use Rattle.rx_cond.specs.declared.conds.Tri.{Tri}
 use Rattle.rx_cond.specs.declared.conds.Tri.TheVariants.{T, F, N}
 use Rattle.rx_where.specs.declared.raw.RawOperand.{RawOperand}
@@ -22,10 +23,10 @@ use Rattle.rx_where.specs.Raw as raw
 use Rattle.rx_where.specs.Grammar.{Comparison, Operand, name, constant, number, plus, minus, string, null, SpellsOperand, operand_side, Constant, SpellsConstants, SpellsTuple, Sense, plain, negated, WithNot, Test, compared, null_test, between, among, like, alone, rows, row_names, truth_word, SpellsTest, test_tree}
 use Rattle.rx_where.proofs.Leads.{What, starts, starts_any, apart_all, free, first_free, others_free, no_word, no_sign, no_name}
 use Rattle.rx_where.proofs.Leads as lead
-use Rattle.rx_where.proofs.OperandLaws.{found, begins_word, begins_sign, begins_name, begins_text, begins_number, operand_read, operand_forward, constants_forward, word_forward, sign_forward, name_forward, text_forward, no_operand, operands}
+use Rattle.rx_where.proofs.OperandLaws.{found, begins_word, begins_sign, begins_name, begins_text, begins_number, operand_read, operand_forward, constants_forward, word_forward, name_forward, text_forward, no_operand, operands}
 use Rattle.rx_where.proofs.TestLaws.{TestRead, operand_test_spelled, truth_spelled, predicate_spelled, predicate_step, alone_by}
 use Rattle.rx_where.proofs.TestReads.{predicates, no_predicate, behind_operand, compared_read, null_predicate, sensed_predicate, between_read, among_read, like_read}
-use Rattle.rx_where.proofs.RowLaws.{row_test_spelled, row_test_read, open_names, rows_step}
+use Rattle.rx_where.proofs.RowLaws.{row_test_spelled, row_test_read, if_several, rows_step}
 
 pub test_spelled : (ts : List Token) (x : RawTree × List Token) → test_at ts ≡ Some x → TestRead ts x
 unfolding test_at
@@ -64,13 +65,10 @@ test_forward (like sense column pattern) =
     (with_not_forward sense (Word (codes "LIKE") >> Text pattern) (then_forward (Word (codes "LIKE")) (Text pattern) (word_forward (codes "LIKE")) (text_forward pattern)))
 test_forward (alone truth) = word_forward (truth_word truth)
 test_forward (rows sense first others tuples) =
-    then_forward (Sign OPEN) (SpellsListed (Sign COMMA) Name (before first others) >> Sign CLOSE >> WithNot sense (Word (codes "IN") >> Sign OPEN >> SpellsListed (Sign COMMA) (SpellsTuple (length (row_names first others))) tuples >> Sign CLOSE)) (sign_forward OPEN)
-    (then_forward (SpellsListed (Sign COMMA) Name (before first others)) (Sign CLOSE >> WithNot sense (Word (codes "IN") >> Sign OPEN >> SpellsListed (Sign COMMA) (SpellsTuple (length (row_names first others))) tuples >> Sign CLOSE)) (listed_forward (Sign COMMA) Name (sign_forward COMMA) name_forward (before first others))
-    (then_forward (Sign CLOSE) (WithNot sense (Word (codes "IN") >> Sign OPEN >> SpellsListed (Sign COMMA) (SpellsTuple (length (row_names first others))) tuples >> Sign CLOSE)) (sign_forward CLOSE)
-    (with_not_forward sense (Word (codes "IN") >> Sign OPEN >> SpellsListed (Sign COMMA) (SpellsTuple (length (row_names first others))) tuples >> Sign CLOSE)
-    (then_forward (Word (codes "IN")) (Sign OPEN >> SpellsListed (Sign COMMA) (SpellsTuple (length (row_names first others))) tuples >> Sign CLOSE) (word_forward (codes "IN"))
-    (then_forward (Sign OPEN) (SpellsListed (Sign COMMA) (SpellsTuple (length (row_names first others))) tuples >> Sign CLOSE) (sign_forward OPEN)
-    (then_forward (SpellsListed (Sign COMMA) (SpellsTuple (length (row_names first others))) tuples) (Sign CLOSE) (listed_forward (Sign COMMA) (SpellsTuple (length (row_names first others))) (sign_forward COMMA) (tuple_forward (length (row_names first others))) tuples) (sign_forward CLOSE)))))))
+    let tuples_form : Form = SpellsEnclosed (SpellsTuple (length (row_names first others))) tuples in
+    then_forward (SpellsEnclosed Name (before first others)) (WithNot sense (Word (codes "IN") >> tuples_form)) (enclosed_forward Name name_forward (before first others))
+    (with_not_forward sense (Word (codes "IN") >> tuples_form)
+    (then_forward (Word (codes "IN")) tuples_form (word_forward (codes "IN")) (enclosed_forward (SpellsTuple (length (row_names first others))) (tuple_forward (length (row_names first others))) tuples)))
 
 -- what goes on with a test
 abbrev pub test_goes_on : List Token → Bool
@@ -131,10 +129,10 @@ null_by ts rest s (Some x) is =
 
 rows_read : (sense : Sense) (first : List ℕ) (others : Listed (List ℕ)) (tuples : Listed (Listed Constant)) (ts rest : List Token) → SpellsTest (rows sense first others tuples) ts rest → test_at ts ≡ Some (found (test_tree (rows sense first others tuples)) rest)
 unfolding test_at
-rows_read sense first others tuples ts rest (mid, opened, s) =
+rows_read sense first others tuples ts rest (here, (mid, opened, s), t) =
     let b = begins_sign OPEN ts mid opened in
     second_gives (no_operand_test ts (free (lead.sign OPEN) operands ts refl b))
-    (second_gives (no_truth ts (free (lead.sign OPEN) truths ts refl b)) (row_test_read sense first others tuples ts rest (mid, opened, s)))
+    (second_gives (no_truth ts (free (lead.sign OPEN) truths ts refl b)) (row_test_read sense first others tuples ts rest (here, (mid, opened, s), t)))
 
 pub test_reaches : (t : Test) (ts rest : List Token) → SpellsTest t ts rest → Reaches test_goes_on (test_at ts) (test_tree t) rest
 unfolding is_reserved
@@ -186,7 +184,7 @@ nothing_enters item ts e =
 -- no condition begins with a name and a comma
 no_row_test : (ts : List Token) → starts (lead.sign OPEN) ts ≡ false → row_test_at ts ≡ None
 unfolding row_test_at names_at
-no_row_test ts e = then_none rows_step (then_none open_names (no_sign OPEN ts e))
+no_row_test ts e = then_none rows_step (then_none if_several (no_enclosed name_at ts (no_sign OPEN ts e)))
 
 no_test_at_name : (n : List ℕ) (ts mid : List Token) → Name n ts mid → starts (lead.sign COMMA) mid ≡ true → test_at ts ≡ None
 unfolding test_at operand_test_at is_reserved op_of_sign
@@ -212,7 +210,7 @@ no_cond_at_name levels n ts mid s comma =
     (then_none (rest_items (after_word (codes "AND")) (neg_at levels)) (no_neg_at_name levels n ts mid s comma))))
 
 no_parens_at_names : (levels : ℕ) (sense : Sense) (first : List ℕ) (others : Listed (List ℕ)) (tuples : Listed (Listed Constant)) (ts rest : List Token) → SpellsTest (rows sense first others tuples) ts rest → parens_at (neg_at levels) ts ≡ None
-no_parens_at_names levels sense first others tuples ts rest (mid, opened, (end, (here, s, (next, comma, t)), u)) =
+no_parens_at_names levels sense first others tuples ts rest (behind, (mid, opened, (end, (here, s, (next, comma, t)), closed)), u) =
     then_gives (cond_behind (neg_at levels)) (sign_read OPEN ts mid opened) (then_none close_cond (no_cond_at_name levels first mid here s (begins_sign COMMA here next comma)))
 
 -- where a test is spelled, it is a test that is read
@@ -226,6 +224,6 @@ test_entered (like sense column pattern) levels ts rest (here, s, t) = nothing_e
 test_entered (alone T) levels ts rest s = nothing_enters (neg_at levels) ts (free (lead.word (codes "TRUE")) enterings ts refl (begins_word (codes "TRUE") ts rest s))
 test_entered (alone F) levels ts rest s = nothing_enters (neg_at levels) ts (free (lead.word (codes "FALSE")) enterings ts refl (begins_word (codes "FALSE") ts rest s))
 test_entered (alone N) levels ts rest s = nothing_enters (neg_at levels) ts (free (lead.word (codes "NULL")) enterings ts refl (begins_word (codes "NULL") ts rest s))
-test_entered (rows sense first others tuples) levels ts rest (mid, opened, s) =
+test_entered (rows sense first others tuples) levels ts rest (here, (mid, opened, s), t) =
     second_gives (then_none (neg_behind (neg_at levels)) (no_word (codes "NOT") ts (first_free (lead.word (codes "NOT")) [] ts (free (lead.sign OPEN) (lead.word (codes "NOT") ∷ []) ts refl (begins_sign OPEN ts mid opened)))))
-    (second_gives (no_parens_at_names levels sense first others tuples ts rest (mid, opened, s)) refl)
+    (second_gives (no_parens_at_names levels sense first others tuples ts rest (here, (mid, opened, s), t)) refl)

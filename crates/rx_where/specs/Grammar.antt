@@ -3,8 +3,8 @@ use Rattle.std.specs.Prelude.{◌≡◌, ℕ, suc, ◌≤◌, max, pos, neg_ℤ,
 use Rattle.rx_value.specs.declared.values.Value.{Value}
 use Rattle.rx_value.specs.declared.values.Value.TheVariants as value
 use Rattle.rx_token.specs.declared.kinds.Token.{Token}
-use Rattle.rx_token.specs.declared.signs.TheConstants.{PLUS, MINUS, OPEN, CLOSE, COMMA}
-use Rattle.rx_reading.specs.Forms.{Form, One, ◌>>◌, Word, Sign, Name, Text, Listed, before, values, SpellsListed}
+use Rattle.rx_token.specs.declared.signs.TheConstants.{PLUS, MINUS, OPEN, CLOSE}
+use Rattle.rx_reading.specs.Forms.{Form, One, ◌>>◌, Word, Sign, Name, Text, Listed, before, values, SpellsEnclosed}
 use Rattle.rx_cond.specs.declared.conds.Tri.{Tri}
 use Rattle.rx_cond.specs.declared.conds.Tri.TheVariants.{T, F, N}
 use Rattle.rx_cond.specs.declared.conds.Op.{Op}
@@ -64,7 +64,7 @@ operand_side (constant c) = of.Constant (constant_value c)
 
 -- "(" constant {"," constant} ")"
 abbrev pub SpellsConstants : Listed Constant → Form
-SpellsConstants list = Sign OPEN >> SpellsListed (Sign COMMA) SpellsConstant list >> Sign CLOSE
+SpellsConstants list = SpellsEnclosed SpellsConstant list
 
 -- tuple := "(" constant {"," constant} ")", of so many constants
 abbrev pub SpellsTuple : ℕ → Listed Constant → Form
@@ -113,13 +113,14 @@ abbrev pub SpellsTest : Test → Form
 SpellsTest (compared left op right) = SpellsOperand left >> Comparison op >> SpellsOperand right
 SpellsTest (null_test sense left) = SpellsOperand left >> Word (codes "IS") >> WithNot sense (Word (codes "NULL"))
 SpellsTest (between sense left low high) =
-    SpellsOperand left >> WithNot sense (Word (codes "BETWEEN") >> SpellsOperand low >> Word (codes "AND") >> SpellsOperand high)
+    SpellsOperand left
+    >> WithNot sense (Word (codes "BETWEEN") >> SpellsOperand low >> Word (codes "AND") >> SpellsOperand high)
 SpellsTest (among sense left list) = SpellsOperand left >> WithNot sense (Word (codes "IN") >> SpellsConstants list)
 SpellsTest (like sense column pattern) = Name column >> WithNot sense (Word (codes "LIKE") >> Text pattern)
 SpellsTest (alone truth) = Word (truth_word truth)
 SpellsTest (rows sense first others tuples) =
-    Sign OPEN >> SpellsListed (Sign COMMA) Name (before first others) >> Sign CLOSE
-    >> WithNot sense (Word (codes "IN") >> Sign OPEN >> SpellsListed (Sign COMMA) (SpellsTuple (length (row_names first others))) tuples >> Sign CLOSE)
+    SpellsEnclosed Name (before first others)
+    >> WithNot sense (Word (codes "IN") >> SpellsEnclosed (SpellsTuple (length (row_names first others))) tuples)
 
 -- the condition of a test
 abbrev pub test_tree : Test → RawTree

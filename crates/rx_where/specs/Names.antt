@@ -1,8 +1,8 @@
 -- The names of a condition, and the columns that they name.
 use Rattle.std.specs.Prelude.{ℕ, Bool, List, [], ◌∷◌, ◌++◌, Option, is_none, position}
 use Rattle.std.specs.List.{find}
-use Rattle.std.specs.Str.{str_eq_ignore_ascii_case}
 use Rattle.rx_value.specs.declared.shapes.Column.{Column as TheColumn}
+use Rattle.rx_value.specs.Names.{same_name}
 use Rattle.rx_where.specs.declared.raw.RawOperand.{RawOperand}
 use Rattle.rx_where.specs.declared.raw.RawOperand.TheVariants.{Column, Constant}
 use Rattle.rx_where.specs.Raw.{RawTree, RawTrees, truth, compare, member, row_member, is_null, like, neg, conj, disj, none, more}
@@ -32,15 +32,15 @@ abbrev mutual
 
 -- a column has this name, without ASCII case
 abbrev pub is_named : List ℕ → TheColumn → Bool
-is_named name column = str_eq_ignore_ascii_case name column.name
+is_named name column = same_name name column.name
 
--- the number of the first column of a name, from 0
-abbrev pub number_of : List TheColumn → List ℕ → Option ℕ
-number_of columns name = position (is_named name) columns
+-- where the first column of a name stands, counted from 0
+abbrev pub place_of : List TheColumn → List ℕ → Option ℕ
+place_of columns name = position (is_named name) columns
 
 -- no column has this name
 abbrev pub is_unknown : List TheColumn → List ℕ → Bool
-is_unknown columns name = is_none (number_of columns name)
+is_unknown columns name = is_none (place_of columns name)
 
 -- the first of these names that is no column
 abbrev pub first_unknown : List TheColumn → List (List ℕ) → Option (List ℕ)

@@ -5,10 +5,10 @@ use Rattle.rx_value.specs.declared.values.Value.{Value}
 use Rattle.rx_value.specs.declared.values.Value.TheVariants.{Null, Int, Text}
 use Rattle.rx_token.specs.declared.kinds.TokenKind.{TokenKind}
 use Rattle.rx_token.specs.declared.kinds.TokenKind.TheVariants.{Word, Quoted, Number, Str, Sign}
-use Rattle.rx_token.specs.declared.signs.TheConstants.{PLUS, MINUS, OPEN, CLOSE, COMMA}
+use Rattle.rx_token.specs.declared.signs.TheConstants.{PLUS, MINUS}
 use Rattle.rx_where.specs.declared.raw.RawOperand.{RawOperand}
 use Rattle.rx_where.specs.declared.raw.RawOperand.TheVariants.{Column, Constant}
-use Rattle.rx_reading.specs.Reading.{Reader, ◌>>=◌, after_word, after_sign, name_at, text_at, items_at}
+use Rattle.rx_reading.specs.Reading.{Reader, ◌>>=◌, after_word, after_sign, name_at, text_at, enclosed_at}
 
 -- numbers are below 2^127
 abbrev pub whole_of : TokenKind → Option ℕ
@@ -41,12 +41,17 @@ null_at ts = after_word (codes "NULL") ts >>= λ behind. Some (Null, behind)
 
 -- constant := ["+"|"-"] number | string | NULL
 unfoldable pub constant_at : Reader Value
-constant_at ts = option_or (null_at ts) (option_or (text_at ts >>= λ text. Some (Text text.0, text.1)) (number_at ts >>= λ n. Some (Int n.0, n.1)))
+constant_at ts =
+    option_or (null_at ts)
+    (option_or (text_at ts >>= λ text. Some (Text text.0, text.1))
+    (number_at ts >>= λ n. Some (Int n.0, n.1)))
 
 -- operand := name | constant
 unfoldable pub operand_at : Reader RawOperand
-operand_at ts = option_or (name_at ts >>= λ name. Some (Column name.0, name.1)) (constant_at ts >>= λ value. Some (Constant value.0, value.1))
+operand_at ts =
+    option_or (name_at ts >>= λ name. Some (Column name.0, name.1))
+    (constant_at ts >>= λ value. Some (Constant value.0, value.1))
 
 -- "(" constant {"," constant} ")"
 unfoldable pub constants_at : Reader (List Value)
-constants_at ts = after_sign OPEN ts >>= λ behind. items_at (after_sign COMMA) constant_at behind >>= λ list. after_sign CLOSE list.1 >>= λ rest. Some (list.0, rest)
+constants_at ts = enclosed_at constant_at ts

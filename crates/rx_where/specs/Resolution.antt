@@ -11,12 +11,12 @@ use Rattle.rx_where.specs.declared.raw.RawOperand.TheVariants.{Column, Constant}
 use Rattle.rx_where.specs.declared.resolving.ResolveFault.{ResolveFault}
 use Rattle.rx_where.specs.declared.resolving.ResolveFault.TheVariants.{UnknownName, TypeMismatch, NoMemory}
 use Rattle.rx_where.specs.Kinds.{mismatches}
-use Rattle.rx_where.specs.Names.{names_of, number_of, first_unknown}
+use Rattle.rx_where.specs.Names.{names_of, place_of, first_unknown}
 use Rattle.rx_where.specs.Raw.{RawTree, RawTrees, truth, compare, member, row_member, is_null, like, neg, conj, disj, none, more}
 
 -- the number that stands for a name: 0 for a name that is no column
 abbrev pub number : List TheColumn → List ℕ → ℕ
-number columns name = unwrap_or (number_of columns name) 0
+number columns name = unwrap_or (place_of columns name) 0
 
 abbrev pub resolved_operand : List TheColumn → RawOperand → Operand
 resolved_operand columns (Column name) = of.Column (number columns name)
@@ -26,7 +26,8 @@ abbrev mutual
   -- the condition with the number of its column for each name
   pub resolved : List TheColumn → RawTree → Tree
   resolved columns (truth t) = over.truth t
-  resolved columns (compare op left right) = over.compare op (resolved_operand columns left) (resolved_operand columns right)
+  resolved columns (compare op left right) =
+      over.compare op (resolved_operand columns left) (resolved_operand columns right)
   resolved columns (member left list) = over.member (resolved_operand columns left) list
   resolved columns (row_member names list) = over.row_member (map (number columns) names) list
   resolved columns (is_null operand) = over.is_null (resolved_operand columns operand)

@@ -1,5 +1,6 @@
-ghost use Rattle.std.specs.Prelude.{◌≡◌, ◌<◌, ◌≤◌, IfOk, IfErr, IfSome, length, map, drop};
-ghost use Rattle.std.specs.Option.{option_map};
+ghost use Rattle.std.specs.Prelude.{◌≡◌, ◌<◌, ◌≤◌, IfOk, IfErr, List, length, map, drop};
+ghost use Rattle.rx_token.specs.declared.kinds.Token.{Token};
+ghost use Rattle.rx_reading.specs.Reading.{ReadsAs};
 ghost use Rattle.rx_where.specs.Raw.{raw_tree_of, conj_of, disj_of};
 ghost use Rattle.rx_where.specs.Conditions.{test_at, next_conjunct, conj_at, next_disjunct, cond_at, not_at, parens_at, nest, neg_at, longest_at, Finds, Refuses};
 ghost use Rattle.rx_where.specs.Grammar.{IsCond, IsUnambiguous, IsLongest};
@@ -7,9 +8,9 @@ ghost use Rattle.rx_where.specs.Grammar.{IsCond, IsUnambiguous, IsLongest};
 use crate::raw::RawCond;
 use crate::rows::row_test_at;
 use crate::single::{operand_test_at, truth_at};
-use rx_reading::{after_sign, after_word};
+use rx_reading::{Read, Reading, after_sign, after_word};
 use rx_token::{Token, signs};
-use std::alloc::{AllocError, Global};
+use std::alloc::Global;
 use thiserror::Error;
 
 /// Why no condition was read.
@@ -33,20 +34,33 @@ const LEVELS: u32 = 65;
 ///
 /// The error is `NotInGrammar` where no condition begins there, or `NoMemory`.
 pub fn parse(alloc: Global, tokens: &[Token], at: usize) -> Result<(RawCond, usize), ParseFault>
-    requires { at ≤ length tokens.now }
     ensures reads { Finds (length tokens.now) (longest_at (drop at tokens.now)) result }
     ensures ends { IfOk result (λ x. (at < x.1) × (x.1 ≤ length tokens.now)) }
     ensures found { IfOk result (λ x. IsCond (drop at tokens.now) (raw_tree_of x.0) (drop x.1 tokens.now)) }
-    ensures only { IsUnambiguous (drop at tokens.now) }
     ensures longest { IfOk result (λ x. IsLongest (drop at tokens.now) (drop x.1 tokens.now)) }
     ensures none { IfErr result (Refuses (drop at tokens.now)) }
 {
-    let (_, here) = tokens.split_at(at);
-    match cond_at(alloc, LEVELS, here) {
-        Ok(Some((found, rest))) => Ok((found, tokens.len() - rest.len())),
+    match cond_at(alloc, LEVELS, from_on(tokens, at)) {
+        Ok(Some(found)) => Ok((found.value, tokens.len() - found.rest.len())),
         Ok(None) => Err(ParseFault::NotInGrammar),
         Err(_) => Err(ParseFault::NoMemory),
     }
+}
+
+/// The grammar is unambiguous: conditions that begin at one token and end at one token are one.
+pub fn one_condition()
+    ensures { (ts : List Token) → IsUnambiguous ts }
+{}
+
+/// The tokens from the one of this number on, none where there is no such token.
+fn from_on(tokens: &[Token], at: usize) -> &[Token]
+    ensures { result.now ≡ drop at tokens.now }
+{
+    if at > tokens.len() {
+        return &[];
+    }
+    let (_, here) = tokens.split_at(at);
+    here
 }
 
 fn conj_of(mut items: Vec<RawCond>) -> RawCond
@@ -68,9 +82,8 @@ fn disj_of(mut items: Vec<RawCond>) -> RawCond
 }
 
 #[tactic(auto, unfolding(crate::specs::Conditions::test_at))]
-fn test_at(alloc: Global, tokens: &[Token]) -> Result<Option<(RawCond, &[Token])>, AllocError>
-    ensures value { IfOk result (λ o. option_map (λ x. (raw_tree_of x.0, x.1.now)) o ≡ test_at tokens.now) }
-    ensures shorter { IfOk result (λ o. IfSome o (λ x. length x.1.now < length tokens.now)) }
+fn test_at(alloc: Global, tokens: &[Token]) -> Reading<RawCond>
+    ensures { IfOk result (ReadsAs raw_tree_of test_at tokens.now) }
 {
     if let Some(found) = operand_test_at(alloc, tokens)? {
         return Ok(Some(found));
@@ -83,38 +96,31 @@ fn test_at(alloc: Global, tokens: &[Token]) -> Result<Option<(RawCond, &[Token])
 
 /// The disjuncts at the front.
 #[cycle(cond)]
-fn cond_at(
-    alloc: Global,
-    levels: u32,
-    tokens: &[Token],
-) -> Result<Option<(RawCond, &[Token])>, AllocError>
-    ensures value { IfOk result (λ o. option_map (λ x. (raw_tree_of x.0, x.1.now)) o ≡ cond_at (neg_at levels) tokens.now) }
-    ensures shorter { IfOk result (λ o. IfSome o (λ x. length x.1.now < length tokens.now)) }
+fn cond_at(alloc: Global, levels: u32, tokens: &[Token]) -> Reading<RawCond>
+    ensures { IfOk result (ReadsAs raw_tree_of (cond_at (neg_at levels)) tokens.now) }
 {
-    let Some((first, start)) = conj_at(alloc, levels, tokens)? else {
+    let Some(first) = conj_at(alloc, levels, tokens)? else {
         return Ok(None);
     };
     let mut items = Vec::new(alloc);
-    items.push(first)?;
-    let mut rest = start;
+    items.push(first.value)?;
+    let mut rest = first.rest;
     'disjuncts: loop {
-        let Some((next, after)) = next_disjunct(alloc, levels, rest)? else {
-            return Ok(Some((disj_of(items), rest)));
+        let Some(next) = next_disjunct(alloc, levels, rest)? else {
+            return Ok(Some(Read {
+                value: disj_of(items),
+                rest,
+            }));
         };
-        items.push(next)?;
-        rest = after;
+        items.push(next.value)?;
+        rest = next.rest;
     }
 }
 
 /// OR and what stands behind it.
 #[cycle(cond)]
-fn next_disjunct(
-    alloc: Global,
-    levels: u32,
-    tokens: &[Token],
-) -> Result<Option<(RawCond, &[Token])>, AllocError>
-    ensures value { IfOk result (λ o. option_map (λ x. (raw_tree_of x.0, x.1.now)) o ≡ next_disjunct (neg_at levels) tokens.now) }
-    ensures shorter { IfOk result (λ o. IfSome o (λ x. length x.1.now < length tokens.now)) }
+fn next_disjunct(alloc: Global, levels: u32, tokens: &[Token]) -> Reading<RawCond>
+    ensures { IfOk result (ReadsAs raw_tree_of (next_disjunct (neg_at levels)) tokens.now) }
 {
     let Some(behind) = after_word(tokens, b"OR") else {
         return Ok(None);
@@ -124,38 +130,31 @@ fn next_disjunct(
 
 /// The conjuncts at the front.
 #[cycle(cond)]
-fn conj_at(
-    alloc: Global,
-    levels: u32,
-    tokens: &[Token],
-) -> Result<Option<(RawCond, &[Token])>, AllocError>
-    ensures value { IfOk result (λ o. option_map (λ x. (raw_tree_of x.0, x.1.now)) o ≡ conj_at (neg_at levels) tokens.now) }
-    ensures shorter { IfOk result (λ o. IfSome o (λ x. length x.1.now < length tokens.now)) }
+fn conj_at(alloc: Global, levels: u32, tokens: &[Token]) -> Reading<RawCond>
+    ensures { IfOk result (ReadsAs raw_tree_of (conj_at (neg_at levels)) tokens.now) }
 {
-    let Some((first, start)) = neg_at(alloc, levels, tokens)? else {
+    let Some(first) = neg_at(alloc, levels, tokens)? else {
         return Ok(None);
     };
     let mut items = Vec::new(alloc);
-    items.push(first)?;
-    let mut rest = start;
+    items.push(first.value)?;
+    let mut rest = first.rest;
     'conjuncts: loop {
-        let Some((next, after)) = next_conjunct(alloc, levels, rest)? else {
-            return Ok(Some((conj_of(items), rest)));
+        let Some(next) = next_conjunct(alloc, levels, rest)? else {
+            return Ok(Some(Read {
+                value: conj_of(items),
+                rest,
+            }));
         };
-        items.push(next)?;
-        rest = after;
+        items.push(next.value)?;
+        rest = next.rest;
     }
 }
 
 /// AND and what stands behind it.
 #[cycle(cond)]
-fn next_conjunct(
-    alloc: Global,
-    levels: u32,
-    tokens: &[Token],
-) -> Result<Option<(RawCond, &[Token])>, AllocError>
-    ensures value { IfOk result (λ o. option_map (λ x. (raw_tree_of x.0, x.1.now)) o ≡ next_conjunct (neg_at levels) tokens.now) }
-    ensures shorter { IfOk result (λ o. IfSome o (λ x. length x.1.now < length tokens.now)) }
+fn next_conjunct(alloc: Global, levels: u32, tokens: &[Token]) -> Reading<RawCond>
+    ensures { IfOk result (ReadsAs raw_tree_of (next_conjunct (neg_at levels)) tokens.now) }
 {
     let Some(behind) = after_word(tokens, b"AND") else {
         return Ok(None);
@@ -165,13 +164,8 @@ fn next_conjunct(
 
 /// A negation, a condition in parentheses, or a test, within so many levels.
 #[cycle(cond)]
-fn neg_at(
-    alloc: Global,
-    levels: u32,
-    tokens: &[Token],
-) -> Result<Option<(RawCond, &[Token])>, AllocError>
-    ensures value { IfOk result (λ o. option_map (λ x. (raw_tree_of x.0, x.1.now)) o ≡ neg_at levels tokens.now) }
-    ensures shorter { IfOk result (λ o. IfSome o (λ x. length x.1.now < length tokens.now)) }
+fn neg_at(alloc: Global, levels: u32, tokens: &[Token]) -> Reading<RawCond>
+    ensures { IfOk result (ReadsAs raw_tree_of (neg_at levels) tokens.now) }
 {
     if levels == 0 {
         return Ok(None);
@@ -181,13 +175,8 @@ fn neg_at(
 
 /// The same, where what is one level deeper has so many levels.
 #[cycle(cond)]
-fn nest(
-    alloc: Global,
-    levels: u32,
-    tokens: &[Token],
-) -> Result<Option<(RawCond, &[Token])>, AllocError>
-    ensures value { IfOk result (λ o. option_map (λ x. (raw_tree_of x.0, x.1.now)) o ≡ nest (neg_at levels) tokens.now) }
-    ensures shorter { IfOk result (λ o. IfSome o (λ x. length x.1.now < length tokens.now)) }
+fn nest(alloc: Global, levels: u32, tokens: &[Token]) -> Reading<RawCond>
+    ensures { IfOk result (ReadsAs raw_tree_of (nest (neg_at levels)) tokens.now) }
 {
     if let Some(found) = not_at(alloc, levels, tokens)? {
         return Ok(Some(found));
@@ -199,41 +188,37 @@ fn nest(
 }
 
 #[cycle(cond)]
-fn not_at(
-    alloc: Global,
-    levels: u32,
-    tokens: &[Token],
-) -> Result<Option<(RawCond, &[Token])>, AllocError>
-    ensures value { IfOk result (λ o. option_map (λ x. (raw_tree_of x.0, x.1.now)) o ≡ not_at (neg_at levels) tokens.now) }
-    ensures shorter { IfOk result (λ o. IfSome o (λ x. length x.1.now < length tokens.now)) }
+fn not_at(alloc: Global, levels: u32, tokens: &[Token]) -> Reading<RawCond>
+    ensures { IfOk result (ReadsAs raw_tree_of (not_at (neg_at levels)) tokens.now) }
 {
     let Some(behind) = after_word(tokens, b"NOT") else {
         return Ok(None);
     };
-    let Some((inner, rest)) = neg_at(alloc, levels, behind)? else {
+    let Some(inner) = neg_at(alloc, levels, behind)? else {
         return Ok(None);
     };
-    let inner = Box::new(alloc, inner)?;
-    Ok(Some((RawCond::Neg(inner), rest)))
+    let negated = Box::new(alloc, inner.value)?;
+    Ok(Some(Read {
+        value: RawCond::Neg(negated),
+        rest: inner.rest,
+    }))
 }
 
 #[cycle(cond)]
-fn parens_at(
-    alloc: Global,
-    levels: u32,
-    tokens: &[Token],
-) -> Result<Option<(RawCond, &[Token])>, AllocError>
-    ensures value { IfOk result (λ o. option_map (λ x. (raw_tree_of x.0, x.1.now)) o ≡ parens_at (neg_at levels) tokens.now) }
-    ensures shorter { IfOk result (λ o. IfSome o (λ x. length x.1.now < length tokens.now)) }
+fn parens_at(alloc: Global, levels: u32, tokens: &[Token]) -> Reading<RawCond>
+    ensures { IfOk result (ReadsAs raw_tree_of (parens_at (neg_at levels)) tokens.now) }
 {
     let Some(behind) = after_sign(tokens, signs::OPEN) else {
         return Ok(None);
     };
-    let Some((inner, behind)) = cond_at(alloc, levels, behind)? else {
+    let Some(inner) = cond_at(alloc, levels, behind)? else {
         return Ok(None);
     };
-    let Some(rest) = after_sign(behind, signs::CLOSE) else {
+    let Some(rest) = after_sign(inner.rest, signs::CLOSE) else {
         return Ok(None);
     };
-    Ok(Some((inner, rest)))
+    Ok(Some(Read {
+        value: inner.value,
+        rest,
+    }))
 }

@@ -3,9 +3,8 @@ ghost use Rattle.std.specs.List.{list_any};
 ghost use Rattle.rx_where.specs.Kinds.{type_kind, value_kind, column_kind, operand_kind, differ, list_differs, row_differs, is_whole, mismatches, any_mismatches};
 ghost use Rattle.rx_where.specs.Raw.{raw_tree_of, raw_trees};
 
-use crate::names::same_name;
 use crate::raw::{RawCond, RawOperand};
-use rx_value::{Bytes, ColType, Column, Key, Value};
+use rx_value::{Bytes, ColType, Column, Key, Value, same_name};
 
 /// What the values of a side of a test are.
 #[derive(Clone, Copy, Debug, PartialEq, Eq)]
@@ -67,38 +66,24 @@ fn differ(left: Option<Kind>, right: Option<Kind>) -> bool
 fn list_differs(kind: Option<Kind>, list: &[Value]) -> bool
     ensures { result ≡ list_differs kind list.now }
 {
-    for value in list {
-        if differ(kind, value_kind(value)) {
-            return true;
-        }
-    }
-    false
+    list.iter().any(|value| differ(kind, value_kind(value)))
 }
 
 // Whether a value of the key is of another kind than the column at its place.
-#[tactic(auto, using(crate::proofs::Lists::no_key_differs))]
 fn row_differs(columns: &[Column], names: &[Bytes], key: &[Value]) -> bool
     ensures { result ≡ row_differs columns.now names.now key.now }
 {
-    let Some((name, names)) = names.split_first() else {
-        return false;
-    };
-    let Some((value, key)) = key.split_first() else {
-        return false;
-    };
-    differ(column_kind(columns, name.as_slice()), value_kind(value))
-        || row_differs(columns, names, key)
+    names.iter().zip(key).any(|(name, value)| differ(
+        column_kind(columns, name.as_slice()),
+        value_kind(value),
+    ))
 }
 
 fn any_row_differs(columns: &[Column], names: &[Bytes], list: &[Key]) -> bool
     ensures { result ≡ list_any (row_differs columns.now names.now) list.now }
 {
-    for key in list {
-        if row_differs(columns, names, key.as_slice()) {
-            return true;
-        }
-    }
-    false
+    list.iter()
+        .any(|key| row_differs(columns, names, key.as_slice()))
 }
 
 /// Whether a test of the condition has sides of two kinds, or is LIKE on a column of integers.

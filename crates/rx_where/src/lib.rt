@@ -10,6 +10,6 @@ mod resolving;
 mod rows;
 mod single;
 
-pub use conditions::{ParseFault, parse};
+pub use conditions::{ParseFault, one_condition, parse};
 pub use raw::{RawCond, RawOperand};
 pub use resolving::{ResolveFault, resolve};

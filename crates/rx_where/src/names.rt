@@ -1,23 +1,16 @@
 ghost use Rattle.std.specs.Prelude.{◌≡◌, ◌<◌, ◌≤◌, length, map, IfSome, [], ◌∷◌};
 ghost use Rattle.std.specs.Option.{option_map};
-ghost use Rattle.std.specs.Str.{str_eq_ignore_ascii_case};
-ghost use Rattle.rx_where.specs.Names.{names_of, names_of_all, operand_names, number_of, first_unknown, is_unknown};
+ghost use Rattle.rx_where.specs.Names.{names_of, names_of_all, operand_names, place_of, first_unknown, is_unknown};
+ghost use Rattle.rx_value.specs.Limits.{most_columns};
 ghost use Rattle.rx_where.specs.Raw.{raw_tree_of, raw_trees};
 ghost use Rattle.rx_where.specs.Resolution.{number};
 
 use crate::raw::{RawCond, RawOperand};
-use rx_value::{Bytes, Column};
-
-/// Whether two names are the same without case.
-pub(crate) fn same_name(name: &[u8], other: &[u8]) -> bool
-    ensures { result ≡ str_eq_ignore_ascii_case name.now other.now }
-{
-    name.eq_ignore_ascii_case(other)
-}
+use rx_value::{Bytes, Column, same_name};
 
 /// The place of the first column of a name.
 fn place_of(columns: &[Column], name: &[u8]) -> Option<usize>
-    ensures value { result ≡ number_of columns.now name.now }
+    ensures value { result ≡ place_of columns.now name.now }
     ensures within { IfSome result (λ n. n < length columns.now) }
 {
     columns
@@ -27,7 +20,7 @@ fn place_of(columns: &[Column], name: &[u8]) -> Option<usize>
 
 /// The number of the first column of a name, 0 where there is none.
 pub(crate) fn number(columns: &[Column], name: &[u8]) -> u32
-    requires { length columns.now ≤ 256 }
+    requires { length columns.now ≤ most_columns }
     ensures { result ≡ number columns.now name.now }
 {
     match place_of(columns, name) {

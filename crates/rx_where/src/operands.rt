@@ -1,14 +1,12 @@
 ghost use Rattle.std.specs.Prelude.{◌≡◌, ◌<◌, ◌≤ℤ◌, ◌^◌, pos, length, IfOk, IfSome};
-ghost use Rattle.std.specs.Option.{option_map};
-ghost use Rattle.rx_token.specs.declared.signs.TheConstants.{COMMA};
-ghost use Rattle.rx_reading.specs.Reading.{after_sign, items_at};
+ghost use Rattle.rx_reading.specs.Reading.{Reads};
 ghost use Rattle.rx_where.specs.Operands.{whole_of, whole_at, plus_at, minus_at, number_at, null_at, constant_at, operand_at, constants_at};
 
 use crate::raw::RawOperand;
-use rx_reading::{after_sign, after_word, name_at, text_at};
+use rx_reading::{Item, Read, Reading, after_sign, after_word, enclosed_at, name_at, text_at};
 use rx_token::{Token, TokenKind, signs};
 use rx_value::{Bytes, Key, Value};
-use std::alloc::{AllocError, Global};
+use std::alloc::Global;
 
 fn whole_of(kind: TokenKind) -> Option<u128>
     ensures value { result ≡ whole_of kind }
@@ -20,23 +18,24 @@ fn whole_of(kind: TokenKind) -> Option<u128>
     }
 }
 
-fn whole_at(tokens: &[Token]) -> Option<(i128, &[Token])>
-    ensures value { option_map (λ x. (x.0, x.1.now)) result ≡ whole_at tokens.now }
-    ensures small { IfSome result (λ x. pos 0 ≤ℤ x.0) }
-    ensures shorter { IfSome result (λ x. length x.1.now < length tokens.now) }
+fn whole_at(tokens: &[Token]) -> Option<Read<i128>>
+    ensures value { Reads whole_at tokens.now result }
+    ensures small { IfSome result (λ x. pos 0 ≤ℤ x.value) }
 {
     let [token, rest @ ..] = tokens else {
         return None;
     };
     match whole_of(token.kind) {
-        Some(n) => Some((n as i128, rest)),
+        Some(n) => Some(Read {
+            value: n as i128,
+            rest,
+        }),
         None => None,
     }
 }
 
-fn plus_at(tokens: &[Token]) -> Option<(i128, &[Token])>
-    ensures value { option_map (λ x. (x.0, x.1.now)) result ≡ plus_at tokens.now }
-    ensures shorter { IfSome result (λ x. length x.1.now < length tokens.now) }
+fn plus_at(tokens: &[Token]) -> Option<Read<i128>>
+    ensures { Reads plus_at tokens.now result }
 {
     let Some(behind) = after_sign(tokens, signs::PLUS) else {
         return None;
@@ -44,23 +43,24 @@ fn plus_at(tokens: &[Token]) -> Option<(i128, &[Token])>
     whole_at(behind)
 }
 
-fn minus_at(tokens: &[Token]) -> Option<(i128, &[Token])>
-    ensures value { option_map (λ x. (x.0, x.1.now)) result ≡ minus_at tokens.now }
-    ensures shorter { IfSome result (λ x. length x.1.now < length tokens.now) }
+fn minus_at(tokens: &[Token]) -> Option<Read<i128>>
+    ensures { Reads minus_at tokens.now result }
 {
     let Some(behind) = after_sign(tokens, signs::MINUS) else {
         return None;
     };
-    let Some((n, rest)) = whole_at(behind) else {
+    let Some(number) = whole_at(behind) else {
         return None;
     };
-    Some((-n, rest))
+    Some(Read {
+        value: -number.value,
+        rest: number.rest,
+    })
 }
 
-/// A number with or without a sign, and the tokens behind it.
-fn number_at(tokens: &[Token]) -> Option<(i128, &[Token])>
-    ensures value { option_map (λ x. (x.0, x.1.now)) result ≡ number_at tokens.now }
-    ensures shorter { IfSome result (λ x. length x.1.now < length tokens.now) }
+/// A number with or without a sign.
+fn number_at(tokens: &[Token]) -> Option<Read<i128>>
+    ensures { Reads number_at tokens.now result }
 {
     if let Some(found) = plus_at(tokens) {
         return Some(found);
@@ -71,91 +71,79 @@ fn number_at(tokens: &[Token]) -> Option<(i128, &[Token])>
     whole_at(tokens)
 }
 
-fn null_at(tokens: &[Token]) -> Option<(Value, &[Token])>
-    ensures value { option_map (λ x. (x.0, x.1.now)) result ≡ null_at tokens.now }
-    ensures shorter { IfSome result (λ x. length x.1.now < length tokens.now) }
+fn null_at(tokens: &[Token]) -> Option<Read<Value>>
+    ensures { Reads null_at tokens.now result }
 {
     let Some(rest) = after_word(tokens, b"NULL") else {
         return None;
     };
-    Some((Value::Null, rest))
+    Some(Read {
+        value: Value::Null,
+        rest,
+    })
 }
 
-/// A constant, and the tokens behind it.
 #[tactic(auto, unfolding(crate::specs::Operands::constant_at))]
-fn constant_at(alloc: Global, tokens: &[Token]) -> Result<Option<(Value, &[Token])>, AllocError>
-    ensures value { IfOk result (λ o. option_map (λ x. (x.0, x.1.now)) o ≡ constant_at tokens.now) }
-    ensures shorter { IfOk result (λ o. IfSome o (λ x. length x.1.now < length tokens.now)) }
+fn constant_at(alloc: Global, tokens: &[Token]) -> Reading<Value>
+    ensures { IfOk result (Reads constant_at tokens.now) }
 {
     if let Some(found) = null_at(tokens) {
         return Ok(Some(found));
     }
-    if let Some((text, rest)) = text_at(tokens) {
-        return Ok(Some((Value::Text(Bytes::of(alloc, text)?), rest)));
+    if let Some(text) = text_at(tokens) {
+        let value = Value::Text(Bytes::of(alloc, text.value)?);
+        return Ok(Some(Read {
+            value,
+            rest: text.rest,
+        }));
     }
-    let Some((n, rest)) = number_at(tokens) else {
+    let Some(number) = number_at(tokens) else {
         return Ok(None);
     };
-    Ok(Some((Value::Int(n), rest)))
+    Ok(Some(Read {
+        value: Value::Int(number.value),
+        rest: number.rest,
+    }))
 }
 
-/// A name or a constant, and the tokens behind it.
+/// A name or a constant.
 #[tactic(auto, unfolding(crate::specs::Operands::operand_at))]
-pub(crate) fn operand_at(
-    alloc: Global,
-    tokens: &[Token],
-) -> Result<Option<(RawOperand, &[Token])>, AllocError>
-    ensures value { IfOk result (λ o. option_map (λ x. (x.0, x.1.now)) o ≡ operand_at tokens.now) }
-    ensures shorter { IfOk result (λ o. IfSome o (λ x. length x.1.now < length tokens.now)) }
+pub(crate) fn operand_at(alloc: Global, tokens: &[Token]) -> Reading<RawOperand>
+    ensures { IfOk result (Reads operand_at tokens.now) }
 {
-    if let Some((name, rest)) = name_at(tokens) {
-        return Ok(Some((RawOperand::Column(Bytes::of(alloc, name)?), rest)));
+    if let Some(name) = name_at(tokens) {
+        let value = RawOperand::Column(Bytes::of(alloc, name.value)?);
+        return Ok(Some(Read {
+            value,
+            rest: name.rest,
+        }));
     }
-    let Some((value, rest)) = constant_at(alloc, tokens)? else {
+    let Some(constant) = constant_at(alloc, tokens)? else {
         return Ok(None);
     };
-    Ok(Some((RawOperand::Constant(value), rest)))
+    Ok(Some(Read {
+        value: RawOperand::Constant(constant.value),
+        rest: constant.rest,
+    }))
 }
 
-fn listed_at(alloc: Global, tokens: &[Token]) -> Result<Option<(Key, &[Token])>, AllocError>
-    ensures value { IfOk result (λ o. option_map (λ x. (x.0, x.1.now)) o ≡ items_at (after_sign COMMA) constant_at tokens.now) }
-    ensures shorter { IfOk result (λ o. IfSome o (λ x. length x.1.now < length tokens.now)) }
-{
-    let Some((first, start)) = constant_at(alloc, tokens)? else {
-        return Ok(None);
-    };
-    let mut items = Key::new(alloc);
-    items.push(first)?;
-    let mut rest = start;
-    'values: loop {
-        let Some(after) = after_sign(rest, signs::COMMA) else {
-            return Ok(Some((items, rest)));
-        };
-        let Some((next, after)) = constant_at(alloc, after)? else {
-            return Ok(Some((items, rest)));
-        };
-        items.push(next)?;
-        rest = after;
+/// Reads a constant.
+struct Constants;
+
+impl Item for Constants {
+    type Value = Value;
+
+    ghost reader = { λ item. constant_at };
+
+    fn read_at<'a>(&self, alloc: Global, tokens: &'a [Token]) -> Reading<'a, Value> {
+        constant_at(alloc, tokens)
     }
 }
 
-/// Constants between parentheses, and the tokens behind them.
+/// Constants between parentheses.
 #[tactic(auto, unfolding(crate::specs::Operands::constants_at))]
-pub(crate) fn constants_at(
-    alloc: Global,
-    tokens: &[Token],
-) -> Result<Option<(Key, &[Token])>, AllocError>
-    ensures value { IfOk result (λ o. option_map (λ x. (x.0, x.1.now)) o ≡ constants_at tokens.now) }
-    ensures shorter { IfOk result (λ o. IfSome o (λ x. length x.1.now < length tokens.now)) }
+pub(crate) fn constants_at(alloc: Global, tokens: &[Token]) -> Reading<Key>
+    ensures { IfOk result (Reads constants_at tokens.now) }
 {
-    let Some(behind) = after_sign(tokens, signs::OPEN) else {
-        return Ok(None);
-    };
-    let Some((list, behind)) = listed_at(alloc, behind)? else {
-        return Ok(None);
-    };
-    let Some(rest) = after_sign(behind, signs::CLOSE) else {
-        return Ok(None);
-    };
-    Ok(Some((list, rest)))
+    enclosed_at(alloc, &Constants, tokens)
 }

@@ -5,7 +5,7 @@ use rx_value::{Bytes, Key, KeyList, NameList, Value};
 use std::alloc::{AllocError, Global};
 
 /// A side of a test.
-#[derive(Debug, Drop)]
+#[derive(Drop)]
 pub enum RawOperand {
     /// The name of a column.
     Column(Bytes),
@@ -14,7 +14,7 @@ pub enum RawOperand {
 
 /// A condition as the text has it, before its names are looked up. BETWEEN is a conjunction, and
 /// the NOT forms are negations.
-#[derive(Debug, Drop)]
+#[derive(Drop)]
 pub enum RawCond {
     Truth(Tri),
     Compare {

@@ -1,5 +1,6 @@
 ghost use Rattle.std.specs.Prelude.{◌≡◌, ◌≤◌, IfOk, length, map};
 ghost use Rattle.rx_cond.specs.Tree.{tree_of, trees};
+ghost use Rattle.rx_value.specs.Limits.{most_columns};
 ghost use Rattle.rx_where.specs.Raw.{raw_tree_of, raw_trees};
 ghost use Rattle.rx_where.specs.Resolution.{number, resolved_operand, resolved, resolved_all, resolution, unknown, Says};
 
@@ -7,7 +8,7 @@ use crate::kinds::mismatches;
 use crate::names::{number, unknown_name};
 use crate::raw::{RawCond, RawOperand};
 use rx_cond::{Cond, Operand};
-use rx_value::{Bytes, Column, Key, KeyList, NumberList, Schema};
+use rx_value::{Bytes, Column, NumberList, Schema};
 use std::alloc::{AllocError, Global};
 use thiserror::Error;
 
@@ -31,7 +32,7 @@ pub enum ResolveFault {
 /// The error is `UnknownName` with the first name that is no column, else `TypeMismatch` where a
 /// test has sides of two kinds, else `NoMemory`.
 pub fn resolve(alloc: Global, raw: &RawCond, schema: &Schema) -> Result<Cond, ResolveFault>
-    requires { length schema.now.columns ≤ 256 }
+    requires { length schema.now.columns ≤ most_columns }
     ensures { Says (resolution schema.now.columns (raw_tree_of raw.now)) result }
 {
     let columns = schema.columns.as_slice();
@@ -61,7 +62,7 @@ fn resolved_operand(
     columns: &[Column],
     operand: &RawOperand,
 ) -> Result<Operand, AllocError>
-    requires { length columns.now ≤ 256 }
+    requires { length columns.now ≤ most_columns }
     ensures { IfOk result (λ o. o ≡ resolved_operand columns.now operand.now) }
 {
     match operand {
@@ -71,7 +72,7 @@ fn resolved_operand(
 }
 
 fn numbers(alloc: Global, columns: &[Column], names: &[Bytes]) -> Result<NumberList, AllocError>
-    requires { length columns.now ≤ 256 }
+    requires { length columns.now ≤ most_columns }
     ensures { IfOk result (λ list. list ≡ map (number columns.now) names.now) }
 {
     let mut numbers = NumberList::new(alloc);
@@ -81,20 +82,10 @@ fn numbers(alloc: Global, columns: &[Column], names: &[Bytes]) -> Result<NumberL
     Ok(numbers)
 }
 
-fn copy_keys(alloc: Global, keys: &[Key]) -> Result<KeyList, AllocError>
-    ensures { IfOk result (λ list. list ≡ keys.now) }
-{
-    let mut copies = KeyList::new(alloc);
-    for key in keys {
-        copies.push(key.copy(alloc)?)?;
-    }
-    Ok(copies)
-}
-
 // The condition with the number of its column for each name.
 #[cycle(resolved)]
 fn resolved(alloc: Global, columns: &[Column], raw: &RawCond) -> Result<Cond, AllocError>
-    requires { length columns.now ≤ 256 }
+    requires { length columns.now ≤ most_columns }
     ensures { IfOk result (λ c. tree_of c ≡ resolved columns.now (raw_tree_of raw.now)) }
 {
     let cond = match raw {
@@ -113,7 +104,7 @@ fn resolved(alloc: Global, columns: &[Column], raw: &RawCond) -> Result<Cond, Al
             list,
         } => Cond::RowMember {
             columns: numbers(alloc, columns, names.as_slice())?,
-            list: copy_keys(alloc, list.as_slice())?,
+            list: list.copy(alloc)?,
         },
         RawCond::IsNull(operand) => Cond::IsNull(resolved_operand(alloc, columns, operand)?),
         RawCond::Like { column, pattern } => Cond::Like {
@@ -133,7 +124,7 @@ fn resolved_all(
     columns: &[Column],
     items: &[RawCond],
 ) -> Result<Vec<Cond>, AllocError>
-    requires { length columns.now ≤ 256 }
+    requires { length columns.now ≤ most_columns }
     ensures { IfOk result (λ v. trees (map tree_of v.items) ≡ resolved_all columns.now (raw_trees (map raw_tree_of items.now))) }
 {
     let mut conds = Vec::new(alloc);

@@ -1,12 +1,12 @@
-ghost use Rattle.std.specs.Prelude.{◌≡◌, ◌<◌, length, IfOk, IfSome};
-ghost use Rattle.std.specs.Option.{option_map};
-ghost use Rattle.rx_where.specs.Raw.{raw_tree_of, between};
+ghost use Rattle.std.specs.Prelude.{◌≡◌, IfOk};
+ghost use Rattle.rx_reading.specs.Reading.{Reads, ReadsAs};
+ghost use Rattle.rx_where.specs.Raw.{raw_tree_of, between, compare, conj, more, none};
 ghost use Rattle.rx_where.specs.Tests.{op_of_sign, op_of, op_at, compared_at, is_not_null_at, is_null_at, between_at, among_at, like_at, ranged_at, not_ranged_at, null_test_at, predicate_at, operand_test_at, alone_at, truth_at};
 
 use crate::operands::{constants_at, operand_at};
 use crate::raw::{RawCond, RawOperand};
 use rx_cond::{Op, Tri};
-use rx_reading::{after_word, text_at};
+use rx_reading::{Read, Reading, after_word, text_at};
 use rx_token::{Token, TokenKind, signs};
 use rx_value::Bytes;
 use std::alloc::{AllocError, Global};
@@ -37,45 +37,41 @@ fn op_of(kind: TokenKind) -> Option<Op>
 }
 
 /// A comparison, and the tokens behind it.
-fn op_at(tokens: &[Token]) -> Option<(Op, &[Token])>
-    ensures value { option_map (λ x. (x.0, x.1.now)) result ≡ op_at tokens.now }
-    ensures shorter { IfSome result (λ x. length x.1.now < length tokens.now) }
+fn op_at(tokens: &[Token]) -> Option<Read<Op>>
+    ensures { Reads op_at tokens.now result }
 {
     let [token, rest @ ..] = tokens else {
         return None;
     };
     match op_of(token.kind) {
-        Some(op) => Some((op, rest)),
+        Some(op) => Some(Read { value: op, rest }),
         None => None,
     }
 }
 
 #[tactic(auto, unfolding(crate::specs::Tests::compared_at))]
-fn compared_at<'a>(
-    alloc: Global,
-    left: &RawOperand,
-    tokens: &'a [Token],
-) -> Result<Option<(RawCond, &'a [Token])>, AllocError>
-    ensures value { IfOk result (λ o. option_map (λ x. (raw_tree_of x.0, x.1.now)) o ≡ compared_at left.now tokens.now) }
-    ensures shorter { IfOk result (λ o. IfSome o (λ x. length x.1.now < length tokens.now)) }
+fn compared_at<'a>(alloc: Global, left: &RawOperand, tokens: &'a [Token]) -> Reading<'a, RawCond>
+    ensures { IfOk result (ReadsAs raw_tree_of (compared_at left.now) tokens.now) }
 {
-    let Some((op, behind)) = op_at(tokens) else {
+    let Some(op) = op_at(tokens) else {
         return Ok(None);
     };
-    let Some((right, rest)) = operand_at(alloc, behind)? else {
+    let Some(right) = operand_at(alloc, op.rest)? else {
         return Ok(None);
     };
     let left = left.copy(alloc)?;
-    Ok(Some((RawCond::Compare { op, left, right }, rest)))
+    Ok(Some(Read {
+        value: RawCond::Compare {
+            op: op.value,
+            left,
+            right: right.value,
+        },
+        rest: right.rest,
+    }))
 }
 
-fn is_not_null_at<'a>(
-    alloc: Global,
-    left: &RawOperand,
-    tokens: &'a [Token],
-) -> Result<Option<(RawCond, &'a [Token])>, AllocError>
-    ensures value { IfOk result (λ o. option_map (λ x. (raw_tree_of x.0, x.1.now)) o ≡ is_not_null_at left.now tokens.now) }
-    ensures shorter { IfOk result (λ o. IfSome o (λ x. length x.1.now < length tokens.now)) }
+fn is_not_null_at<'a>(alloc: Global, left: &RawOperand, tokens: &'a [Token]) -> Reading<'a, RawCond>
+    ensures { IfOk result (ReadsAs raw_tree_of (is_not_null_at left.now) tokens.now) }
 {
     let Some(behind) = after_word(tokens, b"IS") else {
         return Ok(None);
@@ -87,16 +83,14 @@ fn is_not_null_at<'a>(
         return Ok(None);
     };
     let inner = Box::new(alloc, RawCond::IsNull(left.copy(alloc)?))?;
-    Ok(Some((RawCond::Neg(inner), rest)))
+    Ok(Some(Read {
+        value: RawCond::Neg(inner),
+        rest,
+    }))
 }
 
-fn is_null_at<'a>(
-    alloc: Global,
-    left: &RawOperand,
-    tokens: &'a [Token],
-) -> Result<Option<(RawCond, &'a [Token])>, AllocError>
-    ensures value { IfOk result (λ o. option_map (λ x. (raw_tree_of x.0, x.1.now)) o ≡ is_null_at left.now tokens.now) }
-    ensures shorter { IfOk result (λ o. IfSome o (λ x. length x.1.now < length tokens.now)) }
+fn is_null_at<'a>(alloc: Global, left: &RawOperand, tokens: &'a [Token]) -> Reading<'a, RawCond>
+    ensures { IfOk result (ReadsAs raw_tree_of (is_null_at left.now) tokens.now) }
 {
     let Some(behind) = after_word(tokens, b"IS") else {
         return Ok(None);
@@ -104,7 +98,31 @@ fn is_null_at<'a>(
     let Some(rest) = after_word(behind, b"NULL") else {
         return Ok(None);
     };
-    Ok(Some((RawCond::IsNull(left.copy(alloc)?), rest)))
+    Ok(Some(Read {
+        value: RawCond::IsNull(left.copy(alloc)?),
+        rest,
+    }))
+}
+
+/// The comparison of an operand with another.
+fn comparison(
+    alloc: Global,
+    op: Op,
+    left: &RawOperand,
+    right: RawOperand,
+) -> Result<RawCond, AllocError>
+    ensures { IfOk result (λ c. raw_tree_of c ≡ compare op left.now right) }
+{
+    let left = left.copy(alloc)?;
+    Ok(RawCond::Compare { op, left, right })
+}
+
+/// Both of two conditions.
+fn both(alloc: Global, first: RawCond, second: RawCond) -> Result<RawCond, AllocError>
+    ensures { IfOk result (λ c. raw_tree_of c ≡ conj (more (raw_tree_of first) (more (raw_tree_of second) none))) }
+{
+    let items = vec![in alloc; first, second]?;
+    Ok(RawCond::Conj(items))
 }
 
 fn between(
@@ -115,70 +133,55 @@ fn between(
 ) -> Result<RawCond, AllocError>
     ensures { IfOk result (λ c. raw_tree_of c ≡ between left.now low high) }
 {
-    let mut items = Vec::new(alloc);
-    items.push(RawCond::Compare {
-        op: Op::Ge,
-        left: left.copy(alloc)?,
-        right: low,
-    })?;
-    items.push(RawCond::Compare {
-        op: Op::Le,
-        left: left.copy(alloc)?,
-        right: high,
-    })?;
-    Ok(RawCond::Conj(items))
+    let at_least = comparison(alloc, Op::Ge, left, low)?;
+    let at_most = comparison(alloc, Op::Le, left, high)?;
+    both(alloc, at_least, at_most)
 }
 
 #[tactic(auto, unfolding(crate::specs::Tests::between_at))]
-fn between_at<'a>(
-    alloc: Global,
-    left: &RawOperand,
-    tokens: &'a [Token],
-) -> Result<Option<(RawCond, &'a [Token])>, AllocError>
-    ensures value { IfOk result (λ o. option_map (λ x. (raw_tree_of x.0, x.1.now)) o ≡ between_at left.now tokens.now) }
-    ensures shorter { IfOk result (λ o. IfSome o (λ x. length x.1.now < length tokens.now)) }
+fn between_at<'a>(alloc: Global, left: &RawOperand, tokens: &'a [Token]) -> Reading<'a, RawCond>
+    ensures { IfOk result (ReadsAs raw_tree_of (between_at left.now) tokens.now) }
 {
     let Some(behind) = after_word(tokens, b"BETWEEN") else {
         return Ok(None);
     };
-    let Some((low, joined)) = operand_at(alloc, behind)? else {
+    let Some(low) = operand_at(alloc, behind)? else {
         return Ok(None);
     };
-    let Some(behind) = after_word(joined, b"AND") else {
+    let Some(behind) = after_word(low.rest, b"AND") else {
         return Ok(None);
     };
-    let Some((high, rest)) = operand_at(alloc, behind)? else {
+    let Some(high) = operand_at(alloc, behind)? else {
         return Ok(None);
     };
-    Ok(Some((between(alloc, left, low, high)?, rest)))
+    Ok(Some(Read {
+        value: between(alloc, left, low.value, high.value)?,
+        rest: high.rest,
+    }))
 }
 
 #[tactic(auto, unfolding(crate::specs::Tests::among_at))]
-fn among_at<'a>(
-    alloc: Global,
-    left: &RawOperand,
-    tokens: &'a [Token],
-) -> Result<Option<(RawCond, &'a [Token])>, AllocError>
-    ensures value { IfOk result (λ o. option_map (λ x. (raw_tree_of x.0, x.1.now)) o ≡ among_at left.now tokens.now) }
-    ensures shorter { IfOk result (λ o. IfSome o (λ x. length x.1.now < length tokens.now)) }
+fn among_at<'a>(alloc: Global, left: &RawOperand, tokens: &'a [Token]) -> Reading<'a, RawCond>
+    ensures { IfOk result (ReadsAs raw_tree_of (among_at left.now) tokens.now) }
 {
     let Some(behind) = after_word(tokens, b"IN") else {
         return Ok(None);
     };
-    let Some((list, rest)) = constants_at(alloc, behind)? else {
+    let Some(list) = constants_at(alloc, behind)? else {
         return Ok(None);
     };
     let left = left.copy(alloc)?;
-    Ok(Some((RawCond::Member { left, list }, rest)))
+    Ok(Some(Read {
+        value: RawCond::Member {
+            left,
+            list: list.value,
+        },
+        rest: list.rest,
+    }))
 }
 
-fn like_at<'a>(
-    alloc: Global,
-    left: &RawOperand,
-    tokens: &'a [Token],
-) -> Result<Option<(RawCond, &'a [Token])>, AllocError>
-    ensures value { IfOk result (λ o. option_map (λ x. (raw_tree_of x.0, x.1.now)) o ≡ like_at left.now tokens.now) }
-    ensures shorter { IfOk result (λ o. IfSome o (λ x. length x.1.now < length tokens.now)) }
+fn like_at<'a>(alloc: Global, left: &RawOperand, tokens: &'a [Token]) -> Reading<'a, RawCond>
+    ensures { IfOk result (ReadsAs raw_tree_of (like_at left.now) tokens.now) }
 {
     let RawOperand::Column(name) = left else {
         return Ok(None);
@@ -186,22 +189,22 @@ fn like_at<'a>(
     let Some(behind) = after_word(tokens, b"LIKE") else {
         return Ok(None);
     };
-    let Some((pattern, rest)) = text_at(behind) else {
+    let Some(pattern) = text_at(behind) else {
         return Ok(None);
     };
     let column = Bytes::of(alloc, name.as_slice())?;
-    let pattern = Bytes::of(alloc, pattern)?;
-    Ok(Some((RawCond::Like { column, pattern }, rest)))
+    Ok(Some(Read {
+        value: RawCond::Like {
+            column,
+            pattern: Bytes::of(alloc, pattern.value)?,
+        },
+        rest: pattern.rest,
+    }))
 }
 
 #[tactic(auto, unfolding(crate::specs::Tests::ranged_at))]
-fn ranged_at<'a>(
-    alloc: Global,
-    left: &RawOperand,
-    tokens: &'a [Token],
-) -> Result<Option<(RawCond, &'a [Token])>, AllocError>
-    ensures value { IfOk result (λ o. option_map (λ x. (raw_tree_of x.0, x.1.now)) o ≡ ranged_at left.now tokens.now) }
-    ensures shorter { IfOk result (λ o. IfSome o (λ x. length x.1.now < length tokens.now)) }
+fn ranged_at<'a>(alloc: Global, left: &RawOperand, tokens: &'a [Token]) -> Reading<'a, RawCond>
+    ensures { IfOk result (ReadsAs raw_tree_of (ranged_at left.now) tokens.now) }
 {
     if let Some(found) = between_at(alloc, left, tokens)? {
         return Ok(Some(found));
@@ -213,32 +216,25 @@ fn ranged_at<'a>(
 }
 
 #[tactic(auto, unfolding(crate::specs::Tests::not_ranged_at))]
-fn not_ranged_at<'a>(
-    alloc: Global,
-    left: &RawOperand,
-    tokens: &'a [Token],
-) -> Result<Option<(RawCond, &'a [Token])>, AllocError>
-    ensures value { IfOk result (λ o. option_map (λ x. (raw_tree_of x.0, x.1.now)) o ≡ not_ranged_at left.now tokens.now) }
-    ensures shorter { IfOk result (λ o. IfSome o (λ x. length x.1.now < length tokens.now)) }
+fn not_ranged_at<'a>(alloc: Global, left: &RawOperand, tokens: &'a [Token]) -> Reading<'a, RawCond>
+    ensures { IfOk result (ReadsAs raw_tree_of (not_ranged_at left.now) tokens.now) }
 {
     let Some(behind) = after_word(tokens, b"NOT") else {
         return Ok(None);
     };
-    let Some((inner, rest)) = ranged_at(alloc, left, behind)? else {
+    let Some(inner) = ranged_at(alloc, left, behind)? else {
         return Ok(None);
     };
-    let inner = Box::new(alloc, inner)?;
-    Ok(Some((RawCond::Neg(inner), rest)))
+    let negated = Box::new(alloc, inner.value)?;
+    Ok(Some(Read {
+        value: RawCond::Neg(negated),
+        rest: inner.rest,
+    }))
 }
 
 #[tactic(auto, unfolding(crate::specs::Tests::null_test_at))]
-fn null_test_at<'a>(
-    alloc: Global,
-    left: &RawOperand,
-    tokens: &'a [Token],
-) -> Result<Option<(RawCond, &'a [Token])>, AllocError>
-    ensures value { IfOk result (λ o. option_map (λ x. (raw_tree_of x.0, x.1.now)) o ≡ null_test_at left.now tokens.now) }
-    ensures shorter { IfOk result (λ o. IfSome o (λ x. length x.1.now < length tokens.now)) }
+fn null_test_at<'a>(alloc: Global, left: &RawOperand, tokens: &'a [Token]) -> Reading<'a, RawCond>
+    ensures { IfOk result (ReadsAs raw_tree_of (null_test_at left.now) tokens.now) }
 {
     if let Some(found) = is_not_null_at(alloc, left, tokens)? {
         return Ok(Some(found));
@@ -247,13 +243,8 @@ fn null_test_at<'a>(
 }
 
 #[tactic(auto, unfolding(crate::specs::Tests::predicate_at))]
-fn predicate_at<'a>(
-    alloc: Global,
-    left: &RawOperand,
-    tokens: &'a [Token],
-) -> Result<Option<(RawCond, &'a [Token])>, AllocError>
-    ensures value { IfOk result (λ o. option_map (λ x. (raw_tree_of x.0, x.1.now)) o ≡ predicate_at left.now tokens.now) }
-    ensures shorter { IfOk result (λ o. IfSome o (λ x. length x.1.now < length tokens.now)) }
+fn predicate_at<'a>(alloc: Global, left: &RawOperand, tokens: &'a [Token]) -> Reading<'a, RawCond>
+    ensures { IfOk result (ReadsAs raw_tree_of (predicate_at left.now) tokens.now) }
 {
     if let Some(found) = compared_at(alloc, left, tokens)? {
         return Ok(Some(found));
@@ -269,33 +260,37 @@ fn predicate_at<'a>(
 
 /// A test of an operand, and the tokens behind it.
 #[tactic(auto, unfolding(crate::specs::Tests::operand_test_at))]
-pub(crate) fn operand_test_at(
-    alloc: Global,
-    tokens: &[Token],
-) -> Result<Option<(RawCond, &[Token])>, AllocError>
-    ensures value { IfOk result (λ o. option_map (λ x. (raw_tree_of x.0, x.1.now)) o ≡ operand_test_at tokens.now) }
-    ensures shorter { IfOk result (λ o. IfSome o (λ x. length x.1.now < length tokens.now)) }
+pub(crate) fn operand_test_at(alloc: Global, tokens: &[Token]) -> Reading<RawCond>
+    ensures { IfOk result (ReadsAs raw_tree_of operand_test_at tokens.now) }
 {
-    let Some((left, behind)) = operand_at(alloc, tokens)? else {
+    let Some(left) = operand_at(alloc, tokens)? else {
         return Ok(None);
     };
-    predicate_at(alloc, &left, behind)
+    predicate_at(alloc, &left.value, left.rest)
 }
 
 /// TRUE, FALSE or NULL, and the tokens behind it.
 #[tactic(auto, unfolding(crate::specs::Tests::truth_at))]
-pub(crate) fn truth_at(tokens: &[Token]) -> Option<(RawCond, &[Token])>
-    ensures value { option_map (λ x. (raw_tree_of x.0, x.1.now)) result ≡ truth_at tokens.now }
-    ensures shorter { IfSome result (λ x. length x.1.now < length tokens.now) }
+pub(crate) fn truth_at(tokens: &[Token]) -> Option<Read<RawCond>>
+    ensures { ReadsAs raw_tree_of truth_at tokens.now result }
 {
     if let Some(rest) = after_word(tokens, b"TRUE") {
-        return Some((RawCond::Truth(Tri::T), rest));
+        return Some(Read {
+            value: RawCond::Truth(Tri::T),
+            rest,
+        });
     }
     if let Some(rest) = after_word(tokens, b"FALSE") {
-        return Some((RawCond::Truth(Tri::F), rest));
+        return Some(Read {
+            value: RawCond::Truth(Tri::F),
+            rest,
+        });
     }
     let Some(rest) = after_word(tokens, b"NULL") else {
         return None;
     };
-    Some((RawCond::Truth(Tri::N), rest))
+    Some(Read {
+        value: RawCond::Truth(Tri::N),
+        rest,
+    })
 }

@@ -1,8 +1,8 @@
-use Rattle.std.proofs.Common.{◌+◌, ◌*◌, length, map, codes}
+use Rattle.std.proofs.Common.{◌+◌, ◌*◌, ◌<◌, length, map, codes}
 use Rattle.rx_where.specs.Raw.{raw_tree_of}
-use Rattle.rx_reading.specs.Reading.{after_word}
+use Rattle.rx_reading.specs.Reading.{after_word, items_at}
 use Rattle.rx_where.specs.Conditions.{neg_at, conj_at}
-use Rattle.rx_reading.proofs.More.{Goes}
+use Rattle.rx_reading.proofs.Going.{Going}
 use Rattle.rx_where.proofs.conditions.+cond.Given as goal
 
 abbrev pub decreases-neg_at : goal.decreases-neg_at
@@ -30,13 +30,19 @@ abbrev pub decreases-nest : goal.decreases-nest
 decreases-nest l = 8 * l.levels + 7
 
 abbrev pub invariant-cond_at-disjuncts : goal.invariant-cond_at-disjuncts
-invariant-cond_at-disjuncts l = Goes (after_word (codes "OR")) (conj_at (neg_at l.levels)) l.tokens (map raw_tree_of l.items.items) l.rest
+invariant-cond_at-disjuncts l = record {
+  read : Going (after_word (codes "OR")) (conj_at (neg_at l.levels)) (items_at (after_word (codes "OR")) (conj_at (neg_at l.levels)) l.tokens) (map raw_tree_of l.items.items) l.rest;
+  within : length l.rest < length l.tokens;
+}
 
 abbrev pub decreases-cond_at-disjuncts : goal.decreases-cond_at-disjuncts
 decreases-cond_at-disjuncts l = length l.rest
 
 abbrev pub invariant-conj_at-conjuncts : goal.invariant-conj_at-conjuncts
-invariant-conj_at-conjuncts l = Goes (after_word (codes "AND")) (neg_at l.levels) l.tokens (map raw_tree_of l.items.items) l.rest
+invariant-conj_at-conjuncts l = record {
+  read : Going (after_word (codes "AND")) (neg_at l.levels) (items_at (after_word (codes "AND")) (neg_at l.levels) l.tokens) (map raw_tree_of l.items.items) l.rest;
+  within : length l.rest < length l.tokens;
+}
 
 abbrev pub decreases-conj_at-conjuncts : goal.decreases-conj_at-conjuncts
 decreases-conj_at-conjuncts l = length l.rest
