@@ -7,7 +7,7 @@ use Rattle.rx_token.specs.declared.kinds.TokenKind.{TokenKind}
 use Rattle.rx_token.specs.declared.kinds.TokenKind.TheVariants.{Word, Quoted, Number, Sign}
 use Rattle.rx_token.specs.declared.signs.TheConstants.{OPEN, CLOSE, COMMA}
 use Rattle.rx_token.specs.Reserved.{is_word_of}
-use Rattle.rx_reading.specs.Reading.{Reader, after_sign, more_at, items_at}
+use Rattle.rx_reading.specs.Reading.{Reader, after_sign, more_at, items_at, enclosed_at}
 use Rattle.rx_ddl.specs.declared.statements.Argument.{Argument}
 use Rattle.rx_ddl.specs.declared.statements.Argument.TheVariants.{Number as Count}
 use Rattle.rx_ddl.specs.declared.statements.Attribute.{Attribute}
@@ -16,11 +16,12 @@ use Rattle.rx_ddl.specs.declared.statements.ColumnDefinition.{ColumnDefinition}
 use Rattle.rx_ddl.specs.declared.statements.KeyKind.{KeyKind}
 use Rattle.rx_ddl.specs.declared.statements.KeyKind.TheVariants.{Primary, Unique, Plain}
 use Rattle.rx_ddl.specs.declared.statements.KeyPart.{KeyPart}
+use Rattle.rx_ddl.specs.declared.statements.Method.{Method}
 use Rattle.rx_ddl.specs.declared.statements.KeyDefinition.{KeyDefinition}
 use Rattle.rx_ddl.specs.declared.statements.CreateDefinition.{CreateDefinition}
 use Rattle.rx_ddl.specs.declared.statements.CreateDefinition.TheVariants.{Column, Key}
 use Rattle.rx_ddl.specs.Columns.{arguments_at, marked_at, attribute_at, attributes_at, column_at}
-use Rattle.rx_ddl.specs.Keys.{part_at, parts_at, methods_at, key_kind_at, key_name_at, key_at}
+use Rattle.rx_ddl.specs.Keys.{part_at, methods_at, key_kind_at, key_name_at, key_at}
 use Rattle.rx_ddl.specs.Create.{definition_at, is_column, create_at}
 use Rattle.rx_ddl.proofs.Scanning.{Front}
 
@@ -274,11 +275,10 @@ part_given name P ts front =
       behind = end;
     }
 
-parts_read : (parts : List KeyPart) (a b c d : ℕ) (ts us vs : List Token) → items_at (after_sign COMMA) part_at ts ≡ Some (parts, us) → us ≡ tok (Sign CLOSE) (41 ∷ []) c d ∷ vs → parts_at (tok (Sign OPEN) (40 ∷ []) a b ∷ ts) ≡ Some (parts, vs)
-unfolding parts_at
+parts_read : (parts : List KeyPart) (a b c d : ℕ) (ts us vs : List Token) → items_at (after_sign COMMA) part_at ts ≡ Some (parts, us) → us ≡ tok (Sign CLOSE) (41 ∷ []) c d ∷ vs → enclosed_at part_at (tok (Sign OPEN) (40 ∷ []) a b ∷ ts) ≡ Some (parts, vs)
 parts_read parts a b c d ts us vs read is = rw (read, is) refl
 
-pub parts_given : (parts : List KeyPart) (P : List Token → Type 0) (ts : List Token) → Front (Sign OPEN) (40 ∷ []) (Gives (items_at (after_sign COMMA) part_at) parts (Front (Sign CLOSE) (41 ∷ []) P)) ts → Gives parts_at parts P ts
+pub parts_given : (parts : List KeyPart) (P : List Token → Type 0) (ts : List Token) → Front (Sign OPEN) (40 ∷ []) (Gives (items_at (after_sign COMMA) part_at) parts (Front (Sign CLOSE) (41 ∷ []) P)) ts → Gives (enclosed_at part_at) parts P ts
 parts_given parts P ts front =
     let list = front.behind in
     let close = list.behind in
@@ -300,17 +300,17 @@ no_methods : (n a b : ℕ) (text : List ℕ) (ts : List Token) → methods_at (t
 unfolding more_at is_word_of
 no_methods n a b text ts = refl
 
-key_read : (kind : KeyKind) (name : List ℕ) (parts : List KeyPart) (ts us vs : List Token) → key_name_at kind ts ≡ Some (name, us) → parts_at us ≡ Some (parts, vs) → methods_at vs ≡ Some ([], vs) → key_at kind ts ≡ Some (key_of kind name parts, vs)
+key_read : (kind : KeyKind) (name : List ℕ) (parts : List KeyPart) (ts us vs : List Token) → key_name_at kind ts ≡ Some (name, us) → enclosed_at part_at us ≡ Some (parts, vs) → methods_at vs ≡ Some ([], vs) → key_at kind ts ≡ Some (key_of kind name parts, vs)
 unfolding key_at
 key_read kind name parts ts us vs first second third =
-    rw (first, second) (ap (option_and_then (λ (m : List (List ℕ) × List Token). Some (record { kind = kind; name = name; parts = parts; methods = m.0 }, m.1))) third)
+    rw (first, second) (ap (option_and_then (λ (m : List Method × List Token). Some (record { kind = kind; name = name; parts = parts; methods = m.0 }, m.1))) third)
 
 key_item : (kind : KeyKind) (ts us others : List Token) (key : KeyDefinition) → key_kind_at ts ≡ Some (kind, us) → key_at kind us ≡ Some (key, others) → definition_at ts ≡ Some (Key key, others)
 unfolding definition_at
 key_item kind ts us others key front read = rw (front, read) refl
 
 -- a key of a kind, where its name is read, and then its parts
-key_given : (kind : KeyKind) (name : List ℕ) (parts : List KeyPart) (P : List Token → Type 0) (ts us vs : List Token) → key_kind_at ts ≡ Some (kind, us) → key_name_at kind us ≡ Some (name, vs) → length vs ≤ length ts → Gives parts_at parts (Before P) vs → Gives definition_at (Key (key_of kind name parts)) (Before P) ts
+key_given : (kind : KeyKind) (name : List ℕ) (parts : List KeyPart) (P : List Token → Type 0) (ts us vs : List Token) → key_kind_at ts ≡ Some (kind, us) → key_name_at kind us ≡ Some (name, vs) → length vs ≤ length ts → Gives (enclosed_at part_at) parts (Before P) vs → Gives definition_at (Key (key_of kind name parts)) (Before P) ts
 key_given kind name parts P ts us vs front named within list =
     let end = list.behind in
     let shorter = list.shorter in
@@ -330,7 +330,7 @@ primary_name : (a b : ℕ) (ts : List Token) → key_name_at Primary (tok Word (
 unfolding is_word_of
 primary_name a b ts = refl
 
-pub primary_given : (parts : List KeyPart) (P : List Token → Type 0) (ts : List Token) → Front Word (codes "PRIMARY") (Front Word (codes "KEY") (Gives parts_at parts (Before P))) ts → Gives definition_at (Key (key_of Primary (codes "PRIMARY") parts)) (Before P) ts
+pub primary_given : (parts : List KeyPart) (P : List Token → Type 0) (ts : List Token) → Front Word (codes "PRIMARY") (Front Word (codes "KEY") (Gives (enclosed_at part_at) parts (Before P))) ts → Gives definition_at (Key (key_of Primary (codes "PRIMARY") parts)) (Before P) ts
 primary_given parts P ts front =
     let key = front.behind in
     let first : length ts ≡ suc (length front.others) = ap length front.is in
@@ -345,7 +345,7 @@ unique_name : (name : List ℕ) (a b c d : ℕ) (ts : List Token) → key_name_a
 unfolding is_word_of
 unique_name name a b c d ts = refl
 
-pub unique_given : (name : List ℕ) (parts : List KeyPart) (P : List Token → Type 0) (ts : List Token) → Front Word (codes "UNIQUE") (Front Word (codes "KEY") (Front Quoted name (Gives parts_at parts (Before P)))) ts → Gives definition_at (Key (key_of Unique name parts)) (Before P) ts
+pub unique_given : (name : List ℕ) (parts : List KeyPart) (P : List Token → Type 0) (ts : List Token) → Front Word (codes "UNIQUE") (Front Word (codes "KEY") (Front Quoted name (Gives (enclosed_at part_at) parts (Before P)))) ts → Gives definition_at (Key (key_of Unique name parts)) (Before P) ts
 unique_given name parts P ts front =
     let key = front.behind in
     let named = key.behind in
@@ -362,7 +362,7 @@ plain_name : (name : List ℕ) (a b c d : ℕ) (ts : List Token) → key_name_at
 unfolding is_word_of
 plain_name name a b c d ts = refl
 
-pub plain_given : (name : List ℕ) (parts : List KeyPart) (P : List Token → Type 0) (ts : List Token) → Front Word (codes "KEY") (Front Quoted name (Gives parts_at parts (Before P))) ts → Gives definition_at (Key (key_of Plain name parts)) (Before P) ts
+pub plain_given : (name : List ℕ) (parts : List KeyPart) (P : List Token → Type 0) (ts : List Token) → Front Word (codes "KEY") (Front Quoted name (Gives (enclosed_at part_at) parts (Before P))) ts → Gives definition_at (Key (key_of Plain name parts)) (Before P) ts
 plain_given name parts P ts key =
     let named = key.behind in
     let first : length ts ≡ suc (length key.others) = ap length key.is in

@@ -9,7 +9,7 @@ use Rattle.rx_token.specs.declared.kinds.TokenKind.TheVariants.{Word, Quoted, Nu
 use Rattle.rx_token.specs.declared.signs.TheConstants.{OPEN, CLOSE, COMMA}
 use Rattle.rx_token.specs.Blank.{blank_at}
 use Rattle.rx_token.proofs.Whole.{whole}
-use Rattle.rx_reading.specs.Reading.{Reader, after_sign, items_at}
+use Rattle.rx_reading.specs.Reading.{Reader, after_sign, items_at, enclosed_at}
 use Rattle.rx_reading.proofs.Whole.{good_text}
 use Rattle.rx_ddl.specs.declared.statements.Argument.{Argument}
 use Rattle.rx_ddl.specs.declared.statements.Argument.TheVariants.{Number as Count, Text}
@@ -19,12 +19,13 @@ use Rattle.rx_ddl.specs.declared.statements.ColumnDefinition.{ColumnDefinition}
 use Rattle.rx_ddl.specs.declared.statements.KeyKind.{KeyKind}
 use Rattle.rx_ddl.specs.declared.statements.KeyKind.TheVariants.{Primary, Unique, Plain, Fulltext, Spatial}
 use Rattle.rx_ddl.specs.declared.statements.KeyPart.{KeyPart}
+use Rattle.rx_ddl.specs.declared.statements.Method.{Method}
 use Rattle.rx_ddl.specs.declared.statements.KeyDefinition.{KeyDefinition}
 use Rattle.rx_ddl.specs.declared.statements.CreateDefinition.{CreateDefinition}
 use Rattle.rx_ddl.specs.declared.statements.CreateDefinition.TheVariants.{Column, Key}
 use Rattle.rx_ddl.specs.declared.statements.CreateTable.{CreateTable}
 use Rattle.rx_ddl.specs.declared.statements.TableOption.{TableOption}
-use Rattle.rx_ddl.specs.Keys.{part_at, parts_at}
+use Rattle.rx_ddl.specs.Keys.{part_at}
 use Rattle.rx_ddl.specs.Create.{definition_at, is_column, create_at, create_form}
 use Rattle.rx_ddl.specs.Canonical.{quoted, parted, arguments_text, attribute_text, column_text, key_front, part_text, key_text, definition_text, canonical, IsName, IsTypeWord, is_tinyint, is_smallint, is_mediumint, is_int, is_bigint, is_varchar, IsWidth, IsMarks, IsCanonicalColumn, IsKeyName, IsCanonicalPart, IsCanonicalKey, IsCanonicalDefinition, IsCanonical}
 use Rattle.rx_ddl.proofs.Scanning.{Reads, Front, Edge, IsWordText, reads_so, space, line, no_bytes, sign, is_open, is_close, is_comma, word, name, number}
@@ -215,7 +216,7 @@ part_reads part rest P is edge read =
     subst (λ (p : KeyPart). Reads (quoted part.column ++ rest) (Gives part_at p (Before P))) (same_part part.column part.prefix part.descending is.prefix is.rising) given
 
 -- the parts of a key between parentheses
-parts_read : (parts : List KeyPart) (rest : List ℕ) (P : List Token → Type 0) → 1 ≤ length parts → All IsCanonicalPart parts → Reads rest P → Reads (40 ∷ (parted part_text (codes ",") parts ++ 41 ∷ rest)) (Gives parts_at parts P)
+parts_read : (parts : List KeyPart) (rest : List ℕ) (P : List Token → Type 0) → 1 ≤ length parts → All IsCanonicalPart parts → Reads rest P → Reads (40 ∷ (parted part_text (codes ",") parts ++ 41 ∷ rest)) (Gives (enclosed_at part_at) parts P)
 parts_read parts rest P some all read =
     let closed : Reads (41 ∷ rest) (Front (Sign CLOSE) (41 ∷ []) P) = sign 1 41 rest P is_close read in
     let list = list_reads part_at part_text IsCanonicalPart (codes ",") (41 ∷ rest) P part_reads comma_alone (at_close rest) closed parts some all in
@@ -229,26 +230,26 @@ key_text_of a b c d rest = rw (append_assoc a b c, append_assoc a (b ++ c) d, ap
 abbrev behind_name : List KeyPart → List ℕ → List ℕ
 behind_name parts rest = 32 ∷ 40 ∷ (parted part_text (codes ",") parts ++ 41 ∷ rest)
 
-named_parts : (text : List ℕ) (parts : List KeyPart) (rest : List ℕ) (P : List Token → Type 0) → IsName text → Reads (behind_name parts rest) (Gives parts_at parts (Before P)) → Reads (codes "KEY" ++ (32 ∷ (quoted text ++ behind_name parts rest))) (Front Word (codes "KEY") (Front Quoted text (Gives parts_at parts (Before P))))
+named_parts : (text : List ℕ) (parts : List KeyPart) (rest : List ℕ) (P : List Token → Type 0) → IsName text → Reads (behind_name parts rest) (Gives (enclosed_at part_at) parts (Before P)) → Reads (codes "KEY" ++ (32 ∷ (quoted text ++ behind_name parts rest))) (Front Word (codes "KEY") (Front Quoted text (Gives (enclosed_at part_at) parts (Before P))))
 named_parts text parts rest P is read =
     let named = name text (behind_name parts rest) _ is (at_space _) read in
     word (codes "KEY") (32 ∷ (quoted text ++ behind_name parts rest)) _ word_key (at_space _) (space _ _ named)
 
-key_kind_reads : (kind : KeyKind) (text : List ℕ) (parts : List KeyPart) (rest : List ℕ) (P : List Token → Type 0) → IsKeyName kind text → Reads (behind_name parts rest) (Gives parts_at parts (Before P)) → Reads (key_front kind text ++ behind_name parts rest) (Gives definition_at (Key (key_of kind text parts)) (Before P))
+key_kind_reads : (kind : KeyKind) (text : List ℕ) (parts : List KeyPart) (rest : List ℕ) (P : List Token → Type 0) → IsKeyName kind text → Reads (behind_name parts rest) (Gives (enclosed_at part_at) parts (Before P)) → Reads (key_front kind text ++ behind_name parts rest) (Gives definition_at (Key (key_of kind text parts)) (Before P))
 key_kind_reads Primary text parts rest P is read =
-    let key : Reads (codes "KEY" ++ behind_name parts rest) (Front Word (codes "KEY") (Gives parts_at parts (Before P))) = word (codes "KEY") (behind_name parts rest) _ word_key (at_space _) read in
-    let front : Reads (codes "PRIMARY" ++ (32 ∷ (codes "KEY" ++ behind_name parts rest))) (Front Word (codes "PRIMARY") (Front Word (codes "KEY") (Gives parts_at parts (Before P)))) = word (codes "PRIMARY") (32 ∷ (codes "KEY" ++ behind_name parts rest)) _ word_primary (at_space _) (space _ _ key) in
+    let key : Reads (codes "KEY" ++ behind_name parts rest) (Front Word (codes "KEY") (Gives (enclosed_at part_at) parts (Before P))) = word (codes "KEY") (behind_name parts rest) _ word_key (at_space _) read in
+    let front : Reads (codes "PRIMARY" ++ (32 ∷ (codes "KEY" ++ behind_name parts rest))) (Front Word (codes "PRIMARY") (Front Word (codes "KEY") (Gives (enclosed_at part_at) parts (Before P)))) = word (codes "PRIMARY") (32 ∷ (codes "KEY" ++ behind_name parts rest)) _ word_primary (at_space _) (space _ _ key) in
     subst (λ (t : List ℕ). Reads (codes "PRIMARY KEY" ++ behind_name parts rest) (Gives definition_at (Key (key_of Primary t parts)) (Before P))) (sym is)
     (reads_so _ _ _ (primary_given parts P) front)
 key_kind_reads Unique text parts rest P is read =
     let key = named_parts text parts rest P is read in
-    let front : Reads (codes "UNIQUE" ++ (32 ∷ (codes "KEY" ++ (32 ∷ (quoted text ++ behind_name parts rest))))) (Front Word (codes "UNIQUE") (Front Word (codes "KEY") (Front Quoted text (Gives parts_at parts (Before P))))) = word (codes "UNIQUE") (32 ∷ (codes "KEY" ++ (32 ∷ (quoted text ++ behind_name parts rest)))) _ word_unique (at_space _) (space _ _ key) in
+    let front : Reads (codes "UNIQUE" ++ (32 ∷ (codes "KEY" ++ (32 ∷ (quoted text ++ behind_name parts rest))))) (Front Word (codes "UNIQUE") (Front Word (codes "KEY") (Front Quoted text (Gives (enclosed_at part_at) parts (Before P))))) = word (codes "UNIQUE") (32 ∷ (codes "KEY" ++ (32 ∷ (quoted text ++ behind_name parts rest)))) _ word_unique (at_space _) (space _ _ key) in
     reads_so _ _ _ (unique_given text parts P) front
 key_kind_reads Plain text parts rest P is read = reads_so _ _ _ (plain_given text parts P) (named_parts text parts rest P is read)
 key_kind_reads Fulltext text parts rest P is read = absurd is
 key_kind_reads Spatial text parts rest P is read = absurd is
 
-same_key : (kind : KeyKind) (text : List ℕ) (parts : List KeyPart) (methods : List (List ℕ)) → methods ≡ [] → ◌≡◌ {A = KeyDefinition} (key_of kind text parts) (record { kind = kind; name = text; parts = parts; methods = methods })
+same_key : (kind : KeyKind) (text : List ℕ) (parts : List KeyPart) (methods : List Method) → methods ≡ [] → ◌≡◌ {A = KeyDefinition} (key_of kind text parts) (record { kind = kind; name = text; parts = parts; methods = methods })
 same_key kind text parts methods none = rw none refl
 
 key_reads : (key : KeyDefinition) (rest : List ℕ) (P : List Token → Type 0) → IsCanonicalKey key → Edge rest → Reads rest (Before P) → Reads (key_text key ++ rest) (Gives definition_at (Key key) (Before P))

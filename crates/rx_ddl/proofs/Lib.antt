@@ -1,5 +1,10 @@
 pub mod Doubled
-pub mod Words
 pub mod Grammar
 pub mod Law
 pub mod Scanning
+pub mod Each
+mod FirstTokens
+mod Enclosed
+mod ColumnLaws
+mod KeyLaws
+pub mod StatementLaws

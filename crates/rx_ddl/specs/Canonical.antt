@@ -55,13 +55,11 @@ abbrev pub column_text : ColumnDefinition → List ℕ
 column_text column =
     quoted column.name ++ codes " " ++ column.kind ++ arguments_text column.arguments ++ flat_map attribute_text column.attributes
 
--- what stands before the parts of a key
+-- what stands before the parts of a key; of other kinds, which no canonical statement has, the kind is left out
 abbrev pub key_front : KeyKind → List ℕ → List ℕ
 key_front Primary name = codes "PRIMARY KEY"
 key_front Unique name = codes "UNIQUE KEY " ++ quoted name
-key_front Plain name = codes "KEY " ++ quoted name
-key_front Fulltext name = codes "FULLTEXT KEY " ++ quoted name
-key_front Spatial name = codes "SPATIAL KEY " ++ quoted name
+key_front _ name = codes "KEY " ++ quoted name
 
 -- a part of a key is the name of its column
 abbrev pub part_text : KeyPart → List ℕ

@@ -4,27 +4,27 @@ use Rattle.std.specs.Option.{option_or}
 use Rattle.rx_token.specs.declared.kinds.Token.{Token}
 use Rattle.rx_token.specs.declared.kinds.TokenKind.{TokenKind}
 use Rattle.rx_token.specs.declared.kinds.TokenKind.TheVariants.{Word, Quoted, Number, Str, Sign}
-use Rattle.rx_token.specs.declared.signs.TheConstants.{OPEN, CLOSE, COMMA, PLUS, MINUS}
-use Rattle.rx_reading.specs.Reading.{Reader, ◌>>=◌, after_word, after_sign, word_at, name_at, text_at, items_at}
+use Rattle.rx_token.specs.declared.signs.TheConstants.{OPEN, PLUS, MINUS}
+use Rattle.rx_reading.specs.Reading.{Reader, ◌>>=◌, after_word, after_sign, word_at, name_at, text_at, past, many_at, enclosed_at}
+use Rattle.rx_reading.specs.declared.items.Separator.TheVariants.{Nothing}
 use Rattle.rx_ddl.specs.declared.statements.Argument.{Argument}
 use Rattle.rx_ddl.specs.declared.statements.Argument.TheVariants.{Number as Count, Text}
 use Rattle.rx_ddl.specs.declared.statements.Attribute.{Attribute}
 use Rattle.rx_ddl.specs.declared.statements.Attribute.TheVariants.{Unsigned, Zerofill, NotNull, Null, CharacterSet, Collate, Other}
 use Rattle.rx_ddl.specs.declared.statements.ColumnDefinition.{ColumnDefinition}
-use Rattle.rx_reading.specs.Many.{past_nothing, many_at}
 
--- the value of a number
-abbrev pub number_of : TokenKind → Option ℕ
-number_of Word = None
-number_of Quoted = None
-number_of (Number n) = Some n
-number_of Str = None
-number_of (Sign n) = None
+-- the number that a token is
+abbrev pub number_in : TokenKind → Option ℕ
+number_in Word = None
+number_in Quoted = None
+number_in (Number n) = Some n
+number_in Str = None
+number_in (Sign n) = None
 
 -- a number
 abbrev pub number_at : Reader ℕ
 number_at [] = None
-number_at (t ∷ ts) = number_of t.kind >>= λ n. Some (n, ts)
+number_at (t ∷ ts) = number_in t.kind >>= λ n. Some (n, ts)
 
 -- a number as an argument
 abbrev pub number_argument_at : Reader Argument
@@ -38,11 +38,10 @@ text_argument_at ts = text_at ts >>= λ text. Some (Text text.0, text.1)
 abbrev pub argument_at : Reader Argument
 argument_at ts = option_or (number_argument_at ts) (text_argument_at ts)
 
--- the arguments behind a parenthesis, and none where there isn't one
+-- the arguments where a parenthesis opens, and none where it doesn't
 abbrev pub arguments_of : List Token → Option (List Token) → Option (List Argument × List Token)
 arguments_of ts None = Some ([], ts)
-arguments_of ts (Some behind) =
-    items_at (after_sign COMMA) argument_at behind >>= λ list. after_sign CLOSE list.1 >>= λ rest. Some (list.0, rest)
+arguments_of ts (Some behind) = enclosed_at argument_at ts
 
 -- ["(" arg {"," arg} ")"]
 unfoldable pub arguments_at : Reader (List Argument)
@@ -113,7 +112,7 @@ attribute_at ts = option_or (marked_at ts) (option_or (other_at ts) (option_or (
 
 -- {attr}
 abbrev pub attributes_at : Reader (List Attribute)
-attributes_at ts = many_at past_nothing attribute_at ts
+attributes_at ts = many_at (past Nothing) attribute_at ts
 
 -- name word ["(" arg {"," arg} ")"] {attr}
 unfoldable pub column_at : Reader ColumnDefinition

@@ -2,9 +2,8 @@
 use Rattle.std.specs.Prelude.{ℕ, Bool, true, false, ◌&&◌, List, codes, Option, Some, None, if◌then◌else◌}
 use Rattle.std.specs.List.{list_any}
 use Rattle.rx_token.specs.declared.kinds.Token.{Token}
-use Rattle.rx_token.specs.declared.signs.TheConstants.{OPEN, CLOSE, COMMA}
 use Rattle.rx_token.specs.Scan.{token_list, bad_place}
-use Rattle.rx_reading.specs.Reading.{Reader, ◌>>=◌, after_word, after_sign, name_at, is_end, items_at, of_whole}
+use Rattle.rx_reading.specs.Reading.{Reader, ◌>>=◌, after_word, name_at, is_end, enclosed_at, of_whole}
 use Rattle.rx_ddl.specs.declared.statements.KeyKind.{KeyKind}
 use Rattle.rx_ddl.specs.declared.statements.CreateDefinition.{CreateDefinition}
 use Rattle.rx_ddl.specs.declared.statements.CreateDefinition.TheVariants.{Column, Key}
@@ -34,9 +33,7 @@ after_create ts = after_word (codes "CREATE") ts >>= after_word (codes "TABLE")
 -- CREATE TABLE name "(" item {"," item} ")" {[","] option} [";"], with a column at least
 unfoldable pub create_at : List Token → Option CreateTable
 create_at ts =
-    after_create ts >>= λ table. name_at table >>= λ name. after_sign OPEN name.1 >>= λ behind.
-    items_at (after_sign COMMA) definition_at behind >>= λ items. after_sign CLOSE items.1 >>= λ closed.
-    options_at closed >>= λ options.
+    after_create ts >>= λ table. name_at table >>= λ name. enclosed_at definition_at name.1 >>= λ items. options_at items.1 >>= λ options.
     if is_end options.1 && list_any is_column items.0 then Some (record { table = name.0; definitions = items.0; options = options.0 }) else None
 
 -- the statement that a whole text gives

@@ -1,16 +1,17 @@
 -- Keys as they are declared.
 use Rattle.std.specs.Prelude.{ℕ, Bool, true, false, List, codes, Option, Some, None}
-use Rattle.std.specs.Option.{option_or, option_to_list}
-use Rattle.std.specs.List.{flat_map}
+use Rattle.std.specs.Option.{option_or}
 use Rattle.rx_token.specs.declared.kinds.Token.{Token}
-use Rattle.rx_token.specs.declared.signs.TheConstants.{OPEN, CLOSE, COMMA}
-use Rattle.rx_reading.specs.Reading.{Reader, ◌>>=◌, after_word, after_sign, word_at, name_at, items_at}
+use Rattle.rx_token.specs.declared.signs.TheConstants.{OPEN, CLOSE}
+use Rattle.rx_reading.specs.Reading.{Reader, ◌>>=◌, after_word, after_sign, word_at, name_at, past, many_at, enclosed_at}
+use Rattle.rx_reading.specs.declared.items.Separator.TheVariants.{Nothing}
 use Rattle.rx_ddl.specs.declared.statements.KeyKind.{KeyKind}
 use Rattle.rx_ddl.specs.declared.statements.KeyKind.TheVariants.{Primary, Unique, Plain, Fulltext, Spatial}
 use Rattle.rx_ddl.specs.declared.statements.KeyPart.{KeyPart}
+use Rattle.rx_ddl.specs.declared.statements.Method.{Method}
+use Rattle.rx_ddl.specs.declared.statements.Method.TheVariants.{Using, Comment}
 use Rattle.rx_ddl.specs.declared.statements.KeyDefinition.{KeyDefinition}
 use Rattle.rx_ddl.specs.Columns.{number_at, past_comment}
-use Rattle.rx_reading.specs.Many.{past_nothing, many_at}
 
 -- the prefix length behind a parenthesis, and none where there isn't one
 abbrev pub prefix_of : List Token → Option (List Token) → Option (Option ℕ × List Token)
@@ -37,31 +38,21 @@ part_at ts =
     name_at ts >>= λ name. prefix_at name.1 >>= λ chars. let direction = direction_at chars.1 in
     Some (record { column = name.0; prefix = chars.0; descending = direction.0 }, direction.1)
 
--- "(" part {"," part} ")"
-unfoldable pub parts_at : Reader (List KeyPart)
-parts_at ts =
-    after_sign OPEN ts >>= λ behind. items_at (after_sign COMMA) part_at behind >>= λ list. after_sign CLOSE list.1 >>= λ rest.
-    Some (list.0, rest)
+-- USING word
+abbrev pub using_at : Reader Method
+using_at ts = after_word (codes "USING") ts >>= λ behind. word_at behind >>= λ word. Some (Using word.0, word.1)
 
--- USING word, with the word
-abbrev pub using_at : Reader (Option (List ℕ))
-using_at ts = after_word (codes "USING") ts >>= λ behind. word_at behind >>= λ word. Some (Some word.0, word.1)
-
--- COMMENT string, without a word
-abbrev pub remark_at : Reader (Option (List ℕ))
-remark_at ts = past_comment ts >>= λ rest. Some (None, rest)
+-- COMMENT string
+abbrev pub remark_at : Reader Method
+remark_at ts = past_comment ts >>= λ rest. Some (Comment, rest)
 
 -- USING word | COMMENT string
-abbrev pub method_at : Reader (Option (List ℕ))
+abbrev pub method_at : Reader Method
 method_at ts = option_or (using_at ts) (remark_at ts)
 
--- the words among what was found
-abbrev pub words_found : List (Option (List ℕ)) × List Token → Option (List (List ℕ) × List Token)
-words_found found = Some (flat_map option_to_list found.0, found.1)
-
--- {USING word | COMMENT string}, the words behind USING
-abbrev pub methods_at : Reader (List (List ℕ))
-methods_at ts = many_at past_nothing method_at ts >>= words_found
+-- {USING word | COMMENT string}
+abbrev pub methods_at : Reader (List Method)
+methods_at ts = many_at (past Nothing) method_at ts
 
 -- KEY | INDEX
 abbrev pub after_key : List Token → Option (List Token)
@@ -94,5 +85,5 @@ key_name_at Spatial ts = after_key ts >>= name_at
 -- a key of this kind, from KEY or INDEX on
 unfoldable pub key_at : KeyKind → Reader KeyDefinition
 key_at kind ts =
-    key_name_at kind ts >>= λ name. parts_at name.1 >>= λ parts. methods_at parts.1 >>= λ methods.
+    key_name_at kind ts >>= λ name. enclosed_at part_at name.1 >>= λ parts. methods_at parts.1 >>= λ methods.
     Some (record { kind = kind; name = name.0; parts = parts.0; methods = methods.0 }, methods.1)

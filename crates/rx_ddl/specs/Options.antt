@@ -1,13 +1,11 @@
 -- Options of a table.
-use Rattle.std.specs.Prelude.{ℕ, Bool, true, false, List, [], ◌∷◌, Option, Some, None, if◌then◌else◌}
-use Rattle.std.specs.Option.{option_or}
-use Rattle.rx_token.specs.declared.kinds.Token.{Token}
+use Rattle.std.specs.Prelude.{ℕ, Bool, true, false, List, [], ◌∷◌, Some, None, if◌then◌else◌}
 use Rattle.rx_token.specs.declared.kinds.TokenKind.{TokenKind}
 use Rattle.rx_token.specs.declared.kinds.TokenKind.TheVariants.{Word, Quoted, Number, Str, Sign}
-use Rattle.rx_token.specs.declared.signs.TheConstants.{COMMA, EQUAL}
-use Rattle.rx_reading.specs.Reading.{Reader, ◌>>=◌, after_sign, word_at, items_at}
+use Rattle.rx_token.specs.declared.signs.TheConstants.{EQUAL}
+use Rattle.rx_reading.specs.Reading.{Reader, ◌>>=◌, after_sign, word_at, past, items_at, many_at}
+use Rattle.rx_reading.specs.declared.items.Separator.TheVariants.{Nothing, MaybeComma}
 use Rattle.rx_ddl.specs.declared.statements.TableOption.{TableOption}
-use Rattle.rx_reading.specs.Many.{past_nothing, many_at}
 
 -- a word, a number or a string
 abbrev pub is_value_kind : TokenKind → Bool
@@ -25,13 +23,9 @@ value_at (t ∷ ts) = if is_value_kind t.kind then Some (t.text, ts) else None
 -- word {word} "=" (word | number | string)
 unfoldable pub option_at : Reader TableOption
 option_at ts =
-    items_at past_nothing word_at ts >>= λ words. after_sign EQUAL words.1 >>= λ behind. value_at behind >>= λ value.
+    items_at (past Nothing) word_at ts >>= λ words. after_sign EQUAL words.1 >>= λ behind. value_at behind >>= λ value.
     Some (record { words = words.0; value = value.0 }, value.1)
-
--- [","]
-abbrev pub past_comma : List Token → Option (List Token)
-past_comma ts = option_or (after_sign COMMA ts) (Some ts)
 
 -- {[","] option}
 abbrev pub options_at : Reader (List TableOption)
-options_at ts = many_at past_comma option_at ts
+options_at ts = many_at (past MaybeComma) option_at ts

@@ -1,32 +1,35 @@
-ghost use Rattle.std.specs.Prelude.{◌≡◌, ◌<◌, ◌≤◌, length, Some, IfOk, IfSome};
-ghost use Rattle.std.specs.Option.{option_map};
+ghost use Rattle.std.specs.Prelude.{◌≡◌, Some, IfOk};
+ghost use Rattle.rx_reading.specs.Reading.{Passes, Reads, ReadsMaybe};
 ghost use Rattle.rx_ddl.specs.Columns.{mark_at, not_null_at, marked_at, past_text, past_word, past_number, past_signed, past_default, past_comment, other_at, character_set_at, collate_at, attribute_at, attributes_at};
 
 use crate::columns::number_at;
 use crate::statements::{Attribute, AttributeList};
-use rx_reading::{after_sign, after_word, text_at, word_at};
+use rx_reading::{
+    Item, Read, Reading, Separator, after_sign, after_word, many_at, text_at, word_at,
+};
 use rx_token::{Token, signs};
 use rx_value::Bytes;
 use std::alloc::{AllocError, Global};
 
-/// An attribute that is one word, and the tokens behind it.
+/// An attribute that is one word.
 fn mark_at<'a>(
     tokens: &'a [Token],
     word: &[u8],
     attribute: Attribute,
-) -> Option<(Attribute, &'a [Token])>
-    ensures value { option_map (λ x. (x.0, x.1.now)) result ≡ mark_at word.now attribute tokens.now }
-    ensures shorter { IfSome result (λ x. length x.1.now < length tokens.now) }
+) -> Option<Read<'a, Attribute>>
+    ensures { Reads (mark_at word.now attribute) tokens.now result }
 {
     let Some(rest) = after_word(tokens, word) else {
         return None;
     };
-    Some((attribute, rest))
+    Some(Read {
+        value: attribute,
+        rest,
+    })
 }
 
-fn not_null_at(tokens: &[Token]) -> Option<(Attribute, &[Token])>
-    ensures value { option_map (λ x. (x.0, x.1.now)) result ≡ not_null_at tokens.now }
-    ensures shorter { IfSome result (λ x. length x.1.now < length tokens.now) }
+fn not_null_at<'a>(tokens: &'a [Token]) -> Option<Read<'a, Attribute>>
+    ensures { Reads not_null_at tokens.now result }
 {
     let Some(behind) = after_word(tokens, b"NOT") else {
         return None;
@@ -34,11 +37,10 @@ fn not_null_at(tokens: &[Token]) -> Option<(Attribute, &[Token])>
     mark_at(behind, b"NULL", Attribute::NotNull)
 }
 
-/// UNSIGNED, ZEROFILL, NOT NULL, NULL or AUTO_INCREMENT, and the tokens behind it.
+/// UNSIGNED, ZEROFILL, NOT NULL, NULL or AUTO_INCREMENT.
 #[tactic(auto, unfolding(crate::specs::Columns::marked_at))]
-fn marked_at(tokens: &[Token]) -> Option<(Attribute, &[Token])>
-    ensures value { option_map (λ x. (x.0, x.1.now)) result ≡ marked_at tokens.now }
-    ensures shorter { IfSome result (λ x. length x.1.now < length tokens.now) }
+fn marked_at<'a>(tokens: &'a [Token]) -> Option<Read<'a, Attribute>>
+    ensures { Reads marked_at tokens.now result }
 {
     if let Some(found) = mark_at(tokens, b"UNSIGNED", Attribute::Unsigned) {
         return Some(found);
@@ -56,38 +58,34 @@ fn marked_at(tokens: &[Token]) -> Option<(Attribute, &[Token])>
 }
 
 fn past_text(tokens: &[Token]) -> Option<&[Token]>
-    ensures value { option_map (λ rest. rest.now) result ≡ past_text tokens.now }
-    ensures shorter { IfSome result (λ rest. length rest.now < length tokens.now) }
+    ensures { Passes past_text tokens.now result }
 {
     match text_at(tokens) {
-        Some((_, rest)) => Some(rest),
+        Some(text) => Some(text.rest),
         None => None,
     }
 }
 
 fn past_word(tokens: &[Token]) -> Option<&[Token]>
-    ensures value { option_map (λ rest. rest.now) result ≡ past_word tokens.now }
-    ensures shorter { IfSome result (λ rest. length rest.now < length tokens.now) }
+    ensures { Passes past_word tokens.now result }
 {
     match word_at(tokens) {
-        Some((_, rest)) => Some(rest),
+        Some(word) => Some(word.rest),
         None => None,
     }
 }
 
 fn past_number(tokens: &[Token]) -> Option<&[Token]>
-    ensures value { option_map (λ rest. rest.now) result ≡ past_number tokens.now }
-    ensures shorter { IfSome result (λ rest. length rest.now < length tokens.now) }
+    ensures { Passes past_number tokens.now result }
 {
     match number_at(tokens) {
-        Some((_, rest)) => Some(rest),
+        Some(number) => Some(number.rest),
         None => None,
     }
 }
 
 fn past_signed(tokens: &[Token], sign: u8) -> Option<&[Token]>
-    ensures value { option_map (λ rest. rest.now) result ≡ past_signed sign tokens.now }
-    ensures shorter { IfSome result (λ rest. length rest.now < length tokens.now) }
+    ensures { Passes (past_signed sign) tokens.now result }
 {
     let Some(behind) = after_sign(tokens, sign) else {
         return None;
@@ -98,8 +96,7 @@ fn past_signed(tokens: &[Token], sign: u8) -> Option<&[Token]>
 /// The tokens behind the value of a DEFAULT: a text, a word, or a number with or without a sign.
 #[tactic(auto, unfolding(crate::specs::Columns::past_default))]
 fn past_default(tokens: &[Token]) -> Option<&[Token]>
-    ensures value { option_map (λ rest. rest.now) result ≡ past_default tokens.now }
-    ensures shorter { IfSome result (λ rest. length rest.now < length tokens.now) }
+    ensures { Passes past_default tokens.now result }
 {
     if let Some(rest) = past_text(tokens) {
         return Some(rest);
@@ -118,8 +115,7 @@ fn past_default(tokens: &[Token]) -> Option<&[Token]>
 
 /// The tokens behind a COMMENT and its text.
 pub(crate) fn past_comment(tokens: &[Token]) -> Option<&[Token]>
-    ensures value { option_map (λ rest. rest.now) result ≡ past_comment tokens.now }
-    ensures shorter { IfSome result (λ rest. length rest.now < length tokens.now) }
+    ensures { Passes past_comment tokens.now result }
 {
     let Some(behind) = after_word(tokens, b"COMMENT") else {
         return None;
@@ -127,13 +123,15 @@ pub(crate) fn past_comment(tokens: &[Token]) -> Option<&[Token]>
     past_text(behind)
 }
 
-/// A COMMENT or a DEFAULT with its value, and the tokens behind it.
-fn other_at(tokens: &[Token]) -> Option<(Attribute, &[Token])>
-    ensures value { option_map (λ x. (x.0, x.1.now)) result ≡ other_at tokens.now }
-    ensures shorter { IfSome result (λ x. length x.1.now < length tokens.now) }
+/// A COMMENT or a DEFAULT with its value.
+fn other_at<'a>(tokens: &'a [Token]) -> Option<Read<'a, Attribute>>
+    ensures { Reads other_at tokens.now result }
 {
     if let Some(rest) = past_comment(tokens) {
-        return Some((Attribute::Other, rest));
+        return Some(Read {
+            value: Attribute::Other,
+            rest,
+        });
     }
     let Some(behind) = after_word(tokens, b"DEFAULT") else {
         return None;
@@ -141,15 +139,14 @@ fn other_at(tokens: &[Token]) -> Option<(Attribute, &[Token])>
     let Some(rest) = past_default(behind) else {
         return None;
     };
-    Some((Attribute::Other, rest))
+    Some(Read {
+        value: Attribute::Other,
+        rest,
+    })
 }
 
-fn character_set_at(
-    alloc: Global,
-    tokens: &[Token],
-) -> Result<Option<(Attribute, &[Token])>, AllocError>
-    ensures value { IfOk result (λ o. option_map (λ x. (x.0, x.1.now)) o ≡ character_set_at tokens.now) }
-    ensures shorter { IfOk result (λ o. IfSome o (λ x. length x.1.now < length tokens.now)) }
+fn character_set_at<'a>(alloc: Global, tokens: &'a [Token]) -> Reading<'a, Attribute>
+    ensures { IfOk result (Reads character_set_at tokens.now) }
 {
     let Some(behind) = after_word(tokens, b"CHARACTER") else {
         return Ok(None);
@@ -157,33 +154,34 @@ fn character_set_at(
     let Some(behind) = after_word(behind, b"SET") else {
         return Ok(None);
     };
-    let Some((word, rest)) = word_at(behind) else {
+    let Some(word) = word_at(behind) else {
         return Ok(None);
     };
-    Ok(Some((Attribute::CharacterSet(Bytes::of(alloc, word)?), rest)))
+    Ok(Some(Read {
+        value: Attribute::CharacterSet(Bytes::of(alloc, word.value)?),
+        rest: word.rest,
+    }))
 }
 
-fn collate_at(alloc: Global, tokens: &[Token]) -> Result<Option<(Attribute, &[Token])>, AllocError>
-    ensures value { IfOk result (λ o. option_map (λ x. (x.0, x.1.now)) o ≡ collate_at tokens.now) }
-    ensures shorter { IfOk result (λ o. IfSome o (λ x. length x.1.now < length tokens.now)) }
+fn collate_at<'a>(alloc: Global, tokens: &'a [Token]) -> Reading<'a, Attribute>
+    ensures { IfOk result (Reads collate_at tokens.now) }
 {
     let Some(behind) = after_word(tokens, b"COLLATE") else {
         return Ok(None);
     };
-    let Some((word, rest)) = word_at(behind) else {
+    let Some(word) = word_at(behind) else {
         return Ok(None);
     };
-    Ok(Some((Attribute::Collate(Bytes::of(alloc, word)?), rest)))
+    Ok(Some(Read {
+        value: Attribute::Collate(Bytes::of(alloc, word.value)?),
+        rest: word.rest,
+    }))
 }
 
 /// An attribute, and the tokens behind it.
 #[tactic(auto, unfolding(crate::specs::Columns::attribute_at))]
-fn attribute_at(
-    alloc: Global,
-    tokens: &[Token],
-) -> Result<Option<(Attribute, &[Token])>, AllocError>
-    ensures value { IfOk result (λ o. option_map (λ x. (x.0, x.1.now)) o ≡ attribute_at tokens.now) }
-    ensures shorter { IfOk result (λ o. IfSome o (λ x. length x.1.now < length tokens.now)) }
+fn attribute_at<'a>(alloc: Global, tokens: &'a [Token]) -> Reading<'a, Attribute>
+    ensures { IfOk result (Reads attribute_at tokens.now) }
 {
     if let Some(found) = marked_at(tokens) {
         return Ok(Some(found));
@@ -197,21 +195,25 @@ fn attribute_at(
     collate_at(alloc, tokens)
 }
 
-/// Attributes as many as follow, and the tokens behind them.
-pub(crate) fn attributes_at(
-    alloc: Global,
-    tokens: &[Token],
-) -> Result<(AttributeList, &[Token]), AllocError>
-    ensures value { IfOk result (λ x. Some (x.0, x.1.now) ≡ attributes_at tokens.now) }
-    ensures within { IfOk result (λ x. length x.1.now ≤ length tokens.now) }
-{
-    let mut items = AttributeList::new(alloc);
-    let mut rest = tokens;
-    'attributes: loop {
-        let Some((next, after)) = attribute_at(alloc, rest)? else {
-            return Ok((items, rest));
-        };
-        items.push(next)?;
-        rest = after;
+/// Reads an attribute of a column.
+struct Attributes;
+
+impl Item for Attributes {
+    type Value = Attribute;
+
+    ghost reader = { λ item. attribute_at };
+
+    fn read_at<'a>(&self, alloc: Global, tokens: &'a [Token]) -> Reading<'a, Attribute> {
+        attribute_at(alloc, tokens)
     }
+}
+
+/// Attributes as many as follow, and the tokens behind them.
+pub(crate) fn attributes_at<'a>(
+    alloc: Global,
+    tokens: &'a [Token],
+) -> Result<Read<'a, AttributeList>, AllocError>
+    ensures { IfOk result (λ read. ReadsMaybe attributes_at tokens.now (Some read)) }
+{
+    many_at(alloc, Separator::Nothing, &Attributes, tokens)
 }

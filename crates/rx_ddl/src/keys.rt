@@ -1,178 +1,138 @@
-ghost use Rattle.std.specs.Prelude.{◌≡◌, ◌<◌, ◌≤◌, ◌++◌, length, Some, IfOk, OnOk, IfSome};
-ghost use Rattle.std.specs.Option.{option_map, option_to_list};
-ghost use Rattle.rx_token.specs.declared.signs.TheConstants.{COMMA};
-ghost use Rattle.rx_reading.specs.Reading.{after_sign, items_at};
-ghost use Rattle.rx_ddl.specs.Keys.{prefix_at, direction_at, part_at, parts_at, using_at, method_at, methods_at, after_key, kind_mark_at, plain_mark_at, key_kind_at, key_name_at, key_at};
+ghost use Rattle.std.specs.Prelude.{◌≡◌, ◌≤◌, length, Some, IfOk};
+ghost use Rattle.rx_reading.specs.Reading.{Passes, Reads, ReadsAs, ReadsMaybe, enclosed_at};
+ghost use Rattle.rx_ddl.specs.Keys.{prefix_at, direction_at, part_at, using_at, method_at, methods_at, after_key, kind_mark_at, plain_mark_at, key_kind_at, key_name_at, key_at};
 
 use crate::attributes::past_comment;
 use crate::columns::number_at;
-use crate::statements::{KeyDefinition, KeyKind, KeyPart, KeyPartList};
-use rx_reading::{after_sign, after_word, name_at, word_at};
+use crate::statements::{KeyDefinition, KeyKind, KeyPart, Method, MethodList};
+use rx_reading::{
+    Item, Read, Reading, Separator, after_sign, after_word, enclosed_at, many_at, name_at, word_at,
+};
 use rx_token::{Token, signs};
-use rx_value::{Bytes, NameList};
+use rx_value::Bytes;
 use std::alloc::{AllocError, Global};
 
-/// The prefix length of a part, none where no parenthesis stands, and the tokens behind it.
-fn prefix_at(tokens: &[Token]) -> Option<(Option<u128>, &[Token])>
-    ensures value { option_map (λ x. (x.0, x.1.now)) result ≡ prefix_at tokens.now }
-    ensures within { IfSome result (λ x. length x.1.now ≤ length tokens.now) }
+/// The prefix length of a part, none where no parenthesis stands.
+fn prefix_at<'a>(tokens: &'a [Token]) -> Option<Read<'a, Option<u128>>>
+    ensures { ReadsMaybe prefix_at tokens.now result }
 {
     let Some(behind) = after_sign(tokens, signs::OPEN) else {
-        return Some((None, tokens));
+        return Some(Read {
+            value: None,
+            rest: tokens,
+        });
     };
-    let Some((n, behind)) = number_at(behind) else {
+    let Some(number) = number_at(behind) else {
         return None;
     };
-    let Some(rest) = after_sign(behind, signs::CLOSE) else {
+    let Some(rest) = after_sign(number.rest, signs::CLOSE) else {
         return None;
     };
-    Some((Some(n), rest))
+    Some(Read {
+        value: Some(number.value),
+        rest,
+    })
 }
 
 /// Whether DESC stands, and the tokens behind ASC or DESC.
-fn direction_at(tokens: &[Token]) -> (bool, &[Token])
-    ensures value { (result.0, result.1.now) ≡ direction_at tokens.now }
-    ensures within { length result.1.now ≤ length tokens.now }
+fn direction_at<'a>(tokens: &'a [Token]) -> Read<'a, bool>
+    ensures value { (result.value, result.rest.now) ≡ direction_at tokens.now }
+    ensures within { length result.rest.now ≤ length tokens.now }
 {
     if let Some(rest) = after_word(tokens, b"ASC") {
-        return (false, rest);
+        return Read { value: false, rest };
     }
     match after_word(tokens, b"DESC") {
-        Some(rest) => (true, rest),
-        None => (false, tokens),
+        Some(rest) => Read { value: true, rest },
+        None => Read {
+            value: false,
+            rest: tokens,
+        },
     }
 }
 
 /// A part of a key, and the tokens behind it.
 #[tactic(auto, unfolding(crate::specs::Keys::part_at))]
-fn part_at(alloc: Global, tokens: &[Token]) -> Result<Option<(KeyPart, &[Token])>, AllocError>
-    ensures value { IfOk result (λ o. option_map (λ x. (x.0, x.1.now)) o ≡ part_at tokens.now) }
-    ensures shorter { IfOk result (λ o. IfSome o (λ x. length x.1.now < length tokens.now)) }
+fn part_at<'a>(alloc: Global, tokens: &'a [Token]) -> Reading<'a, KeyPart>
+    ensures { IfOk result (Reads part_at tokens.now) }
 {
-    let Some((name, behind)) = name_at(tokens) else {
+    let Some(name) = name_at(tokens) else {
         return Ok(None);
     };
-    let Some((prefix, behind)) = prefix_at(behind) else {
+    let Some(prefix) = prefix_at(name.rest) else {
         return Ok(None);
     };
-    let (descending, rest) = direction_at(behind);
-    let column = Bytes::of(alloc, name)?;
-    Ok(Some((
-        KeyPart {
-            column,
-            prefix,
-            descending,
-        },
-        rest,
-    )))
+    let descending = direction_at(prefix.rest);
+    let value = KeyPart {
+        column: Bytes::of(alloc, name.value)?,
+        prefix: prefix.value,
+        descending: descending.value,
+    };
+    Ok(Some(Read {
+        value,
+        rest: descending.rest,
+    }))
 }
 
-/// Parts with commas between them, and the tokens behind them.
-fn part_list_at(
-    alloc: Global,
-    tokens: &[Token],
-) -> Result<Option<(KeyPartList, &[Token])>, AllocError>
-    ensures value { IfOk result (λ o. option_map (λ x. (x.0, x.1.now)) o ≡ items_at (after_sign COMMA) part_at tokens.now) }
-    ensures shorter { IfOk result (λ o. IfSome o (λ x. length x.1.now < length tokens.now)) }
-{
-    let Some((first, start)) = part_at(alloc, tokens)? else {
-        return Ok(None);
-    };
-    let mut items = KeyPartList::new(alloc);
-    items.push(first)?;
-    let mut rest = start;
-    'parts: loop {
-        let Some(after) = after_sign(rest, signs::COMMA) else {
-            return Ok(Some((items, rest)));
-        };
-        let Some((next, after)) = part_at(alloc, after)? else {
-            return Ok(Some((items, rest)));
-        };
-        items.push(next)?;
-        rest = after;
+/// Reads a part of a key.
+struct KeyParts;
+
+impl Item for KeyParts {
+    type Value = KeyPart;
+
+    ghost reader = { λ item. part_at };
+
+    fn read_at<'a>(&self, alloc: Global, tokens: &'a [Token]) -> Reading<'a, KeyPart> {
+        part_at(alloc, tokens)
     }
 }
 
-/// The parts of a key between parentheses, and the tokens behind them.
-#[tactic(auto, unfolding(crate::specs::Keys::parts_at))]
-fn parts_at(alloc: Global, tokens: &[Token]) -> Result<Option<(KeyPartList, &[Token])>, AllocError>
-    ensures value { IfOk result (λ o. option_map (λ x. (x.0, x.1.now)) o ≡ parts_at tokens.now) }
-    ensures shorter { IfOk result (λ o. IfSome o (λ x. length x.1.now < length tokens.now)) }
-{
-    let Some(behind) = after_sign(tokens, signs::OPEN) else {
-        return Ok(None);
-    };
-    let Some((list, behind)) = part_list_at(alloc, behind)? else {
-        return Ok(None);
-    };
-    let Some(rest) = after_sign(behind, signs::CLOSE) else {
-        return Ok(None);
-    };
-    Ok(Some((list, rest)))
-}
-
-/// USING and its word, and the tokens behind them.
-fn using_at(
-    alloc: Global,
-    tokens: &[Token],
-) -> Result<Option<(Option<Bytes>, &[Token])>, AllocError>
-    ensures value { IfOk result (λ o. option_map (λ x. (x.0, x.1.now)) o ≡ using_at tokens.now) }
-    ensures shorter { IfOk result (λ o. IfSome o (λ x. length x.1.now < length tokens.now)) }
+fn using_at<'a>(alloc: Global, tokens: &'a [Token]) -> Reading<'a, Method>
+    ensures { IfOk result (Reads using_at tokens.now) }
 {
     let Some(behind) = after_word(tokens, b"USING") else {
         return Ok(None);
     };
-    let Some((word, rest)) = word_at(behind) else {
+    let Some(word) = word_at(behind) else {
         return Ok(None);
     };
-    Ok(Some((Some(Bytes::of(alloc, word)?), rest)))
+    Ok(Some(Read {
+        value: Method::Using(Bytes::of(alloc, word.value)?),
+        rest: word.rest,
+    }))
 }
 
-/// USING with its word, or a COMMENT, which has none, and the tokens behind it.
-fn method_at(
-    alloc: Global,
-    tokens: &[Token],
-) -> Result<Option<(Option<Bytes>, &[Token])>, AllocError>
-    ensures value { IfOk result (λ o. option_map (λ x. (x.0, x.1.now)) o ≡ method_at tokens.now) }
-    ensures shorter { IfOk result (λ o. IfSome o (λ x. length x.1.now < length tokens.now)) }
-{
-    if let Some(found) = using_at(alloc, tokens)? {
-        return Ok(Some(found));
-    }
-    match past_comment(tokens) {
-        Some(rest) => Ok(Some((None, rest))),
-        None => Ok(None),
+/// Reads USING with its word, or a COMMENT with its text.
+struct Methods;
+
+impl Item for Methods {
+    type Value = Method;
+
+    ghost reader = { λ item. method_at };
+
+    fn read_at<'a>(&self, alloc: Global, tokens: &'a [Token]) -> Reading<'a, Method> {
+        if let Some(found) = using_at(alloc, tokens)? {
+            return Ok(Some(found));
+        }
+        match past_comment(tokens) {
+            Some(rest) => Ok(Some(Read {
+                value: Method::Comment,
+                rest,
+            })),
+            None => Ok(None),
+        }
     }
 }
 
-fn push_some(words: &mut NameList, word: Option<Bytes>) -> Result<(), AllocError>
-    ensures { OnOk result (words.new ≡ words.old ++ option_to_list word) }
+/// USING and COMMENT as often as they follow, and the tokens behind them.
+fn methods_at<'a>(alloc: Global, tokens: &'a [Token]) -> Result<Read<'a, MethodList>, AllocError>
+    ensures { IfOk result (λ read. ReadsMaybe methods_at tokens.now (Some read)) }
 {
-    match word {
-        Some(word) => words.push(word),
-        None => Ok(()),
-    }
-}
-
-/// The words behind USING, as often as USING or COMMENT follows, and the tokens behind them.
-fn methods_at(alloc: Global, tokens: &[Token]) -> Result<(NameList, &[Token]), AllocError>
-    ensures value { IfOk result (λ x. Some (x.0, x.1.now) ≡ methods_at tokens.now) }
-    ensures within { IfOk result (λ x. length x.1.now ≤ length tokens.now) }
-{
-    let mut words = NameList::new(alloc);
-    let mut rest = tokens;
-    'methods: loop {
-        let Some((next, after)) = method_at(alloc, rest)? else {
-            return Ok((words, rest));
-        };
-        push_some(&mut words, next)?;
-        rest = after;
-    }
+    many_at(alloc, Separator::Nothing, &Methods, tokens)
 }
 
 fn after_key(tokens: &[Token]) -> Option<&[Token]>
-    ensures value { option_map (λ rest. rest.now) result ≡ after_key tokens.now }
-    ensures shorter { IfSome result (λ rest. length rest.now < length tokens.now) }
+    ensures { Passes after_key tokens.now result }
 {
     if let Some(rest) = after_word(tokens, b"KEY") {
         return Some(rest);
@@ -180,35 +140,31 @@ fn after_key(tokens: &[Token]) -> Option<&[Token]>
     after_word(tokens, b"INDEX")
 }
 
-fn kind_mark_at<'a>(
-    tokens: &'a [Token],
-    word: &[u8],
-    kind: KeyKind,
-) -> Option<(KeyKind, &'a [Token])>
-    ensures value { option_map (λ x. (x.0, x.1.now)) result ≡ kind_mark_at word.now kind tokens.now }
-    ensures within { IfSome result (λ x. length x.1.now ≤ length tokens.now) }
+fn kind_mark_at<'a>(tokens: &'a [Token], word: &[u8], kind: KeyKind) -> Option<Read<'a, KeyKind>>
+    ensures { ReadsMaybe (kind_mark_at word.now kind) tokens.now result }
 {
     match after_word(tokens, word) {
-        Some(rest) => Some((kind, rest)),
+        Some(rest) => Some(Read { value: kind, rest }),
         None => None,
     }
 }
 
-fn plain_mark_at(tokens: &[Token]) -> Option<(KeyKind, &[Token])>
-    ensures value { option_map (λ x. (x.0, x.1.now)) result ≡ plain_mark_at tokens.now }
-    ensures within { IfSome result (λ x. length x.1.now ≤ length tokens.now) }
+fn plain_mark_at<'a>(tokens: &'a [Token]) -> Option<Read<'a, KeyKind>>
+    ensures { ReadsMaybe plain_mark_at tokens.now result }
 {
     match after_key(tokens) {
-        Some(_) => Some((KeyKind::Plain, tokens)),
+        Some(_) => Some(Read {
+            value: KeyKind::Plain,
+            rest: tokens,
+        }),
         None => None,
     }
 }
 
 /// The kind of the key that begins here, and the tokens from its KEY or INDEX on.
 #[tactic(auto, unfolding(crate::specs::Keys::key_kind_at))]
-pub(crate) fn key_kind_at(tokens: &[Token]) -> Option<(KeyKind, &[Token])>
-    ensures value { option_map (λ x. (x.0, x.1.now)) result ≡ key_kind_at tokens.now }
-    ensures within { IfSome result (λ x. length x.1.now ≤ length tokens.now) }
+pub(crate) fn key_kind_at<'a>(tokens: &'a [Token]) -> Option<Read<'a, KeyKind>>
+    ensures { ReadsMaybe key_kind_at tokens.now result }
 {
     if let Some(found) = kind_mark_at(tokens, b"PRIMARY", KeyKind::Primary) {
         return Some(found);
@@ -225,16 +181,18 @@ pub(crate) fn key_kind_at(tokens: &[Token]) -> Option<(KeyKind, &[Token])>
     plain_mark_at(tokens)
 }
 
-/// The name of a key of this kind, from KEY or INDEX on, and the tokens behind it.
-fn key_name_at(kind: KeyKind, tokens: &[Token]) -> Option<(&[u8], &[Token])>
-    ensures value { option_map (λ x. (x.0.now, x.1.now)) result ≡ key_name_at kind tokens.now }
-    ensures shorter { IfSome result (λ x. length x.1.now < length tokens.now) }
+/// The name of a key of this kind, from KEY or INDEX on.
+fn key_name_at<'a>(kind: KeyKind, tokens: &'a [Token]) -> Option<Read<'a, &'a [u8]>>
+    ensures { ReadsAs (λ text. text.now) (key_name_at kind) tokens.now result }
 {
     if matches!(kind, KeyKind::Primary) {
         let Some(rest) = after_word(tokens, b"KEY") else {
             return None;
         };
-        return Some((b"PRIMARY", rest));
+        return Some(Read {
+            value: b"PRIMARY",
+            rest,
+        });
     }
     let Some(behind) = after_key(tokens) else {
         return None;
@@ -244,29 +202,28 @@ fn key_name_at(kind: KeyKind, tokens: &[Token]) -> Option<(&[u8], &[Token])>
 
 /// A key of this kind, from KEY or INDEX on, and the tokens behind it.
 #[tactic(auto, unfolding(crate::specs::Keys::key_at))]
-pub(crate) fn key_at(
+pub(crate) fn key_at<'a>(
     alloc: Global,
     kind: KeyKind,
-    tokens: &[Token],
-) -> Result<Option<(KeyDefinition, &[Token])>, AllocError>
-    ensures value { IfOk result (λ o. option_map (λ x. (x.0, x.1.now)) o ≡ key_at kind tokens.now) }
-    ensures shorter { IfOk result (λ o. IfSome o (λ x. length x.1.now < length tokens.now)) }
+    tokens: &'a [Token],
+) -> Reading<'a, KeyDefinition>
+    ensures { IfOk result (Reads (key_at kind) tokens.now) }
 {
-    let Some((name, behind)) = key_name_at(kind, tokens) else {
+    let Some(name) = key_name_at(kind, tokens) else {
         return Ok(None);
     };
-    let Some((parts, behind)) = parts_at(alloc, behind)? else {
+    let Some(parts) = enclosed_at(alloc, &KeyParts, name.rest)? else {
         return Ok(None);
     };
-    let (methods, rest) = methods_at(alloc, behind)?;
-    let name = Bytes::of(alloc, name)?;
-    Ok(Some((
-        KeyDefinition {
-            kind,
-            name,
-            parts,
-            methods,
-        },
-        rest,
-    )))
+    let methods = methods_at(alloc, parts.rest)?;
+    let value = KeyDefinition {
+        kind,
+        name: Bytes::of(alloc, name.value)?,
+        parts: parts.value,
+        methods: methods.value,
+    };
+    Ok(Some(Read {
+        value,
+        rest: methods.rest,
+    }))
 }

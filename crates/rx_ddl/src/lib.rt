@@ -11,10 +11,10 @@ mod statements;
 mod writing;
 
 pub use faults::CreateFault;
-pub use reading::read_create;
+pub use reading::{one_statement, read_create};
 pub use statements::{
     Argument, ArgumentList, Attribute, AttributeList, ColumnDefinition, CreateDefinition,
-    CreateTable, DefinitionList, KeyDefinition, KeyKind, KeyPart, KeyPartList, OptionList,
-    TableOption,
+    CreateTable, DefinitionList, KeyDefinition, KeyKind, KeyPart, KeyPartList, Method, MethodList,
+    OptionList, TableOption,
 };
 pub use writing::{reads_what_is_written, write_create};

@@ -1,13 +1,11 @@
-ghost use Rattle.std.specs.Prelude.{◌≡◌, ◌<◌, ◌≤◌, ◌++◌, ◌∷◌, [], length, Some, IfOk, OnOk, IfSome};
-ghost use Rattle.std.specs.Option.{option_map};
-ghost use Rattle.rx_reading.specs.Reading.{word_at, items_at};
-ghost use Rattle.rx_reading.specs.Many.{past_nothing};
-ghost use Rattle.rx_ddl.specs.Options.{is_value_kind, value_at, option_at, past_comma, options_at};
+ghost use Rattle.std.specs.Prelude.{◌≡◌, Some, IfOk};
+ghost use Rattle.rx_reading.specs.Reading.{Reads, ReadsAs, ReadsMaybe, word_at};
+ghost use Rattle.rx_ddl.specs.Options.{is_value_kind, value_at, option_at, options_at};
 
 use crate::statements::{OptionList, TableOption};
-use rx_reading::{after_sign, word_at};
+use rx_reading::{Item, Read, Reading, Separator, after_sign, items_at, many_at, word_at};
 use rx_token::{Token, TokenKind, signs};
-use rx_value::{Bytes, NameList};
+use rx_value::Bytes;
 use std::alloc::{AllocError, Global};
 
 fn is_value_kind(kind: TokenKind) -> bool
@@ -19,89 +17,78 @@ fn is_value_kind(kind: TokenKind) -> bool
     }
 }
 
-/// The text of a word, a number or a string, and the tokens behind it.
-fn value_at(tokens: &[Token]) -> Option<(&[u8], &[Token])>
-    ensures value { option_map (λ x. (x.0.now, x.1.now)) result ≡ value_at tokens.now }
-    ensures shorter { IfSome result (λ x. length x.1.now < length tokens.now) }
+/// The text of a word, a number or a string.
+fn value_at<'a>(tokens: &'a [Token]) -> Option<Read<'a, &'a [u8]>>
+    ensures { ReadsAs (λ text. text.now) value_at tokens.now result }
 {
     let [token, rest @ ..] = tokens else {
         return None;
     };
     if is_value_kind(token.kind) {
-        return Some((token.text.as_slice(), rest));
+        return Some(Read {
+            value: token.text.as_slice(),
+            rest,
+        });
     }
     None
 }
 
-fn add_word(alloc: Global, words: &mut NameList, word: &[u8]) -> Result<(), AllocError>
-    ensures { OnOk result (words.new ≡ words.old ++ word.now ∷ []) }
-{
-    words.push(Bytes::of(alloc, word)?)
-}
+/// Reads a word, a reserved one too.
+struct Words;
 
-/// Words as many as follow, at least one, and the tokens behind them.
-fn words_at(alloc: Global, tokens: &[Token]) -> Result<Option<(NameList, &[Token])>, AllocError>
-    ensures value { IfOk result (λ o. option_map (λ x. (x.0, x.1.now)) o ≡ items_at past_nothing word_at tokens.now) }
-    ensures shorter { IfOk result (λ o. IfSome o (λ x. length x.1.now < length tokens.now)) }
-{
-    let Some((first, start)) = word_at(tokens) else {
-        return Ok(None);
-    };
-    let mut words = NameList::new(alloc);
-    add_word(alloc, &mut words, first)?;
-    let mut rest = start;
-    'words: loop {
-        let Some((next, after)) = word_at(rest) else {
-            return Ok(Some((words, rest)));
+impl Item for Words {
+    type Value = Bytes;
+
+    ghost reader = { λ item. word_at };
+
+    fn read_at<'a>(&self, alloc: Global, tokens: &'a [Token]) -> Reading<'a, Bytes> {
+        let Some(word) = word_at(tokens) else {
+            return Ok(None);
         };
-        add_word(alloc, &mut words, next)?;
-        rest = after;
+        let value = Bytes::of(alloc, word.value)?;
+        Ok(Some(Read {
+            value,
+            rest: word.rest,
+        }))
     }
 }
 
-/// An option, and the tokens behind it.
-#[tactic(auto, unfolding(crate::specs::Options::option_at))]
-fn option_at(alloc: Global, tokens: &[Token]) -> Result<Option<(TableOption, &[Token])>, AllocError>
-    ensures value { IfOk result (λ o. option_map (λ x. (x.0, x.1.now)) o ≡ option_at tokens.now) }
-    ensures shorter { IfOk result (λ o. IfSome o (λ x. length x.1.now < length tokens.now)) }
-{
-    let Some((words, behind)) = words_at(alloc, tokens)? else {
-        return Ok(None);
-    };
-    let Some(behind) = after_sign(behind, signs::EQUAL) else {
-        return Ok(None);
-    };
-    let Some((value, rest)) = value_at(behind) else {
-        return Ok(None);
-    };
-    let value = Bytes::of(alloc, value)?;
-    Ok(Some((TableOption { words, value }, rest)))
-}
+/// Reads an option of a table.
+struct Options;
 
-fn past_comma(tokens: &[Token]) -> &[Token]
-    ensures value { Some result.now ≡ past_comma tokens.now }
-    ensures within { length result.now ≤ length tokens.now }
-{
-    match after_sign(tokens, signs::COMMA) {
-        Some(rest) => rest,
-        None => tokens,
+impl Item for Options {
+    type Value = TableOption;
+
+    ghost reader = { λ item. option_at };
+
+    #[tactic(auto, unfolding(crate::specs::Options::option_at))]
+    fn read_at<'a>(&self, alloc: Global, tokens: &'a [Token]) -> Reading<'a, TableOption> {
+        let Some(words) = items_at(alloc, Separator::Nothing, &Words, tokens)? else {
+            return Ok(None);
+        };
+        let Some(behind) = after_sign(words.rest, signs::EQUAL) else {
+            return Ok(None);
+        };
+        let Some(value) = value_at(behind) else {
+            return Ok(None);
+        };
+        let option = TableOption {
+            words: words.value,
+            value: Bytes::of(alloc, value.value)?,
+        };
+        Ok(Some(Read {
+            value: option,
+            rest: value.rest,
+        }))
     }
 }
 
 /// Options as many as follow, with or without commas before them, and the tokens behind them.
-pub(crate) fn options_at(
+pub(crate) fn options_at<'a>(
     alloc: Global,
-    tokens: &[Token],
-) -> Result<(OptionList, &[Token]), AllocError>
-    ensures { IfOk result (λ x. Some (x.0, x.1.now) ≡ options_at tokens.now) }
+    tokens: &'a [Token],
+) -> Result<Read<'a, OptionList>, AllocError>
+    ensures { IfOk result (λ read. ReadsMaybe options_at tokens.now (Some read)) }
 {
-    let mut items = OptionList::new(alloc);
-    let mut rest = tokens;
-    'options: loop {
-        let Some((next, after)) = option_at(alloc, past_comma(rest))? else {
-            return Ok((items, rest));
-        };
-        items.push(next)?;
-        rest = after;
-    }
+    many_at(alloc, Separator::MaybeComma, &Options, tokens)
 }

@@ -112,9 +112,7 @@ fn write_key_front(into: &mut Bytes, kind: KeyKind, name: &[u8]) -> Result<(), A
     match kind {
         KeyKind::Primary => return into.append(b"PRIMARY KEY"),
         KeyKind::Unique => into.append(b"UNIQUE KEY ")?,
-        KeyKind::Plain => into.append(b"KEY ")?,
-        KeyKind::Fulltext => into.append(b"FULLTEXT KEY ")?,
-        KeyKind::Spatial => into.append(b"SPATIAL KEY ")?,
+        _ => into.append(b"KEY ")?,
     }
     write_name(into, name)
 }
@@ -171,7 +169,7 @@ fn write_definitions(into: &mut Bytes, definitions: &[CreateDefinition]) -> Resu
 /// feed. A column is its name, its type as it stands with numbers as arguments, and ` unsigned` and
 /// ` NOT NULL` where they stand; a key is its kind, its name and the names of its columns. Names stand
 /// between backquotes, doubled inside. Of a statement that `reads_what_is_written` speaks of this is all;
-/// other attributes and arguments, and prefix lengths, DESC, USING and options are left out.
+/// other attributes and arguments, FULLTEXT, SPATIAL, prefix lengths, DESC, USING and options are left out.
 ///
 /// The error is want of memory.
 #[tactic(auto, unfolding(crate::specs::Canonical::canonical))]

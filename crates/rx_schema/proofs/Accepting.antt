@@ -11,7 +11,7 @@ use Rattle.rx_value.specs.declared.shapes.Column.{Column}
 use Rattle.rx_value.specs.declared.shapes.Part.{Part}
 use Rattle.rx_value.specs.declared.shapes.Index.{Index}
 use Rattle.rx_value.specs.declared.shapes.Schema.{Schema}
-use Rattle.rx_value.specs.Shape.{FitsIndex}
+use Rattle.rx_value.specs.Shape.{HasWidth, IsColType, FitsIndex}
 use Rattle.rx_ddl.specs.declared.statements.ColumnDefinition.{ColumnDefinition}
 use Rattle.rx_ddl.specs.declared.statements.KeyDefinition.{KeyDefinition}
 use Rattle.rx_ddl.specs.declared.statements.CreateDefinition.TheVariants as of
@@ -19,23 +19,20 @@ use Rattle.rx_schema.specs.declared.types.TypeWord.TheVariants as word
 use Rattle.rx_schema.specs.Given.{first_given, columns_in, keys_in}
 use Rattle.rx_schema.specs.Limits.{is_primary_kind, is_primary, is_secondary, has_many_parts, too_many}
 use Rattle.rx_schema.specs.Names.{column_names, part_names, primary_name, index_name, further_keys, index_names, is_among, first_repeated, first_duplicate, is_missing, first_unknown}
-use Rattle.rx_schema.specs.Profile.{type_word, is_zerofill, defaults_of, text_place, typed_place, column_place, kind_place, part_place, key_place, item_place, first_place}
+use Rattle.rx_schema.specs.Profile.{type_word, is_zerofill, defaults_of, text_misfit, typed_misfit, column_misfit, kind_misfit, part_misfit, key_misfit, item_misfit, first_misfit}
 use Rattle.rx_schema.specs.Schema.{name_refusal, refusal}
-use Rattle.rx_schema.specs.Tables.{IsSize, size_8, size_16, size_24, size_32, size_64, IsKind, IsTypedColumn, names_of, index_names_of, IsGiven}
+use Rattle.rx_schema.specs.Tables.{names_of, index_names_of, IsDeclarable}
 use Rattle.rx_schema.specs.Writing.{size_word, kind_word, kind_arguments, sign_marks, null_marks, column_definition, part_definition, key_kind, key_definition, definitions_of, statement_of}
 use Rattle.rx_schema.proofs.Apart.{name_at, places_apart, among_at}
 use Rattle.rx_schema.proofs.Every.{every_map, every_both, every_of, of_every, every_append, every_any, every_passes, from_all, given_none, pass_none, filter_all, filter_of, filter_every, map_same, map_same_on, map_both}
 use Rattle.rx_schema.proofs.Repeats.{same, Apart, apart_from, from_apart}
 use Rattle.rx_schema.proofs.Stating.{columns_back, keys_back}
+use Rattle.rx_schema.proofs.Typing.{by_width, IsTypedColumn, typed_columns}
 
 -- the word of a type is read as the type
-pub word_back : (bits : ℕ) → IsSize bits → type_word (size_word bits) ≡ word.Whole bits
+pub word_back : (bits : ℕ) → HasWidth bits → type_word (size_word bits) ≡ word.Whole bits
 unfolding type_word size_word
-word_back _ size_8 = refl
-word_back _ size_16 = refl
-word_back _ size_24 = refl
-word_back _ size_32 = refl
-word_back _ size_64 = refl
+word_back bits h = by_width (λ b. type_word (size_word b) ≡ word.Whole b) refl refl refl refl refl bits h
 
 pub text_back : type_word (codes "varchar") ≡ word.VarChar
 unfolding type_word
@@ -49,35 +46,35 @@ no_zerofill (Whole bits false) false = refl
 no_zerofill (VarChar count) true = refl
 no_zerofill (VarChar count) false = refl
 
-text_within : (count : ℕ) (nullable : Bool) (column : ColumnDefinition) → count ≤ 255 → column.arguments ≡ kind_arguments (VarChar count) → column.attributes ≡ null_marks nullable → text_place (defaults_of []) column ≡ None
-unfolding text_place defaults_of
+text_within : (count : ℕ) (nullable : Bool) (column : ColumnDefinition) → count ≤ 255 → column.arguments ≡ kind_arguments (VarChar count) → column.attributes ≡ null_marks nullable → text_misfit (defaults_of []) column ≡ None
+unfolding text_misfit defaults_of
 text_within count true column h e f = rw (e, f, le-leb count 255 h) refl
 text_within count false column h e f = rw (e, f, le-leb count 255 h) refl
 
-column_within_by : (kind : ColType) (nullable : Bool) (column : ColumnDefinition) → IsKind kind → column.kind ≡ kind_word kind → column.arguments ≡ kind_arguments kind → column.attributes ≡ sign_marks kind ++ null_marks nullable → column_place (defaults_of []) column ≡ None
+column_within_by : (kind : ColType) (nullable : Bool) (column : ColumnDefinition) → IsColType kind → column.kind ≡ kind_word kind → column.arguments ≡ kind_arguments kind → column.attributes ≡ sign_marks kind ++ null_marks nullable → column_misfit (defaults_of []) column ≡ None
 column_within_by (Whole bits signed) nullable column h e f g = rw (e, word_back bits h, g, no_zerofill (Whole bits signed) nullable) refl
-column_within_by (VarChar count) nullable column h e f g = ap (λ w. typed_place w (defaults_of []) column) (ap type_word e ∙ text_back) ∙ text_within count nullable column h f g
+column_within_by (VarChar count) nullable column h e f g = ap (λ w. typed_misfit w (defaults_of []) column) (ap type_word e ∙ text_back) ∙ text_within count nullable column h f g
 
-column_within : (c : Column) → IsTypedColumn c → column_place (defaults_of []) (column_definition c) ≡ None
+column_within : (c : Column) → IsTypedColumn c → column_misfit (defaults_of []) (column_definition c) ≡ None
 unfolding column_definition
 column_within c is = column_within_by c.kind c.nullable (column_definition c) is.kind refl refl refl
 
-kind_within : (primary unique : Bool) → kind_place (key_kind primary unique) ≡ None
+kind_within : (primary unique : Bool) → kind_misfit (key_kind primary unique) ≡ None
 kind_within true unique = refl
 kind_within false true = refl
 kind_within false false = refl
 
-key_within : (C : List Column) (i : Index) → key_place (key_definition C i) ≡ None
-unfolding key_place key_definition
-key_within C i = rw (kind_within i.primary i.unique, given_none part_place (map (part_definition C) i.parts) (every_of (λ p. part_place p ≡ None) (part_definition C) i.parts (every_any _ (λ p. refl) i.parts))) refl
+key_within : (C : List Column) (i : Index) → key_misfit (key_definition C i) ≡ None
+unfolding key_misfit key_definition
+key_within C i = rw (kind_within i.primary i.unique, given_none part_misfit (map (part_definition C) i.parts) (every_of (λ p. part_misfit p ≡ None) (part_definition C) i.parts (every_any _ (λ p. refl) i.parts))) refl
 
-pub in_profile : (s : Schema) → IsGiven s → first_place (statement_of s) ≡ None
-unfolding first_place statement_of
+pub in_profile : (s : Schema) → IsDeclarable s → first_misfit (statement_of s) ≡ None
+unfolding first_misfit statement_of
 in_profile s is =
     let C = s.columns in
-    given_none (item_place (defaults_of [])) (definitions_of s) (every_append (λ x. item_place (defaults_of []) x ≡ None) (map (λ c. of.Column (column_definition c)) C) (map (λ i. of.Key (key_definition C i)) s.indexes)
-    (every_of (λ x. item_place (defaults_of []) x ≡ None) (λ c. of.Column (column_definition c)) C (every_map IsTypedColumn (λ c. column_place (defaults_of []) (column_definition c) ≡ None) column_within C (from_all IsTypedColumn C is.columns)))
-    (every_of (λ x. item_place (defaults_of []) x ≡ None) (λ i. of.Key (key_definition C i)) s.indexes (every_any _ (key_within C) s.indexes)))
+    given_none (item_misfit (defaults_of [])) (definitions_of s) (every_append (λ x. item_misfit (defaults_of []) x ≡ None) (map (λ c. of.Column (column_definition c)) C) (map (λ i. of.Key (key_definition C i)) s.indexes)
+    (every_of (λ x. item_misfit (defaults_of []) x ≡ None) (λ c. of.Column (column_definition c)) C (every_map IsTypedColumn (λ c. column_misfit (defaults_of []) (column_definition c) ≡ None) column_within C (typed_columns s is)))
+    (every_of (λ x. item_misfit (defaults_of []) x ≡ None) (λ i. of.Key (key_definition C i)) s.indexes (every_any _ (key_within C) s.indexes)))
 
 -- a key is primary where its index is
 pub primary_by : (primary unique : Bool) → is_primary_kind (key_kind primary unique) ≡ primary
@@ -102,7 +99,7 @@ few_parts : (C : List Column) (i : Index) → FitsIndex C i → has_many_parts (
 unfolding key_definition
 few_parts C i fits = ap (nat_lt 16) (length-map i.parts (part_definition C)) ∙ le-ltb 16 _ fits.few
 
-pub in_limits : (s : Schema) → IsGiven s → too_many (definitions_of s) ≡ None
+pub in_limits : (s : Schema) → IsDeclarable s → too_many (definitions_of s) ≡ None
 unfolding too_many
 in_limits s is =
     let C = s.columns in
@@ -144,11 +141,11 @@ pub other_name : (C : List Column) (i : Index) → i.primary ≡ false → same 
 unfolding index_name key_definition
 other_name C i e f = rw (primary_by i.primary i.unique, e, f) refl
 
-pub names_apart : (s : Schema) → IsGiven s → AllByRecursion (λ i. not i.primary ≡ true → same i.name primary_name ≡ false) s.indexes
+pub names_apart : (s : Schema) → IsDeclarable s → AllByRecursion (λ i. not i.primary ≡ true → same i.name primary_name ≡ false) s.indexes
 names_apart s is = filter_every (λ i. same i.name primary_name ≡ false) (λ i. not i.primary) s.indexes (of_every (λ n. same n primary_name ≡ false) (λ i. i.name) (others s) ((apart_from [] (index_names_of s.indexes) is.indexes_differ).1.0))
 
 -- the names of the indexes
-pub index_names_back : (s : Schema) → IsGiven s → index_names (definitions_of s) ≡ index_names_of s.indexes
+pub index_names_back : (s : Schema) → IsDeclarable s → index_names (definitions_of s) ≡ index_names_of s.indexes
 index_names_back s is =
     let C = s.columns in
     let keys : map index_name (further_keys (keys_in (definitions_of s))) ≡ map index_name (map (key_definition C) (others s)) = ap (λ ks. map index_name (further_keys ks)) (keys_back C C s.indexes) ∙ ap (map index_name) (further_back C s.indexes (from_all (λ i. i.primary ≡ false) (drop 1 s.indexes) is.shape.primary_first)) in
@@ -184,10 +181,10 @@ parts_known C (p ∷ parts) there = rw (among_at C p.column there.0) (parts_know
 key_known : (C : List Column) (i : Index) → FitsIndex C i → find (is_missing (names_of C)) (part_names (key_definition C i)) ≡ None
 key_known C i fits = ap (find (is_missing (names_of C))) (part_names_back C i) ∙ parts_known C i.parts (from_all _ _ fits.there)
 
-pub columns_apart : (s : Schema) → IsGiven s → Apart (names_of s.columns)
+pub columns_apart : (s : Schema) → IsDeclarable s → Apart (names_of s.columns)
 columns_apart s is = (apart_from [] (names_of s.columns) is.columns_differ).1
 
-no_duplicate : (s : Schema) → IsGiven s → first_duplicate (definitions_of s) ≡ None
+no_duplicate : (s : Schema) → IsDeclarable s → first_duplicate (definitions_of s) ≡ None
 unfolding first_duplicate
 no_duplicate s is =
     let C = s.columns in
@@ -201,7 +198,7 @@ no_duplicate s is =
       three_none None (Some x) q e f g = absurd cc
       three_none None None (Some x) e f g = absurd cc
 
-none_unknown : (s : Schema) → IsGiven s → first_unknown (definitions_of s) ≡ None
+none_unknown : (s : Schema) → IsDeclarable s → first_unknown (definitions_of s) ≡ None
 unfolding first_unknown
 none_unknown s is =
     let C = s.columns in
@@ -212,6 +209,6 @@ definitions_back : (s : Schema) → (statement_of s).definitions ≡ definitions
 unfolding statement_of
 definitions_back s = refl
 
-pub unrefused : (s : Schema) → IsGiven s → refusal (statement_of s) ≡ None
+pub unrefused : (s : Schema) → IsDeclarable s → refusal (statement_of s) ≡ None
 unfolding refusal name_refusal
 unrefused s is = rw (in_profile s is, definitions_back s, in_limits s is, no_duplicate s is, none_unknown s is) refl

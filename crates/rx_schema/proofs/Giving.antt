@@ -5,10 +5,8 @@ use Rattle.std.specs.List.{AllByRecursion, list_any}
 use Rattle.std.proofs.lemmas.Bool.{cond_both, cases_Bool, not-false, not-true}
 use Rattle.std.proofs.lemmas.List.{length-map}
 use Rattle.std.proofs.lemmas.List.Elements.{filter-append}
-use Rattle.rx_value.specs.declared.shapes.ColType.{ColType}
-use Rattle.rx_value.specs.declared.shapes.ColType.TheVariants.{Whole, VarChar}
 use Rattle.rx_value.specs.declared.shapes.Schema.{Schema}
-use Rattle.rx_value.specs.Shape.{IsSized, FitsIndex, IsSchema}
+use Rattle.rx_value.specs.Shape.{IsColType, FitsIndex, IsSchema}
 use Rattle.rx_ddl.specs.declared.statements.ColumnDefinition.{ColumnDefinition}
 use Rattle.rx_ddl.specs.declared.statements.KeyDefinition.{KeyDefinition}
 use Rattle.rx_ddl.specs.declared.statements.CreateDefinition.{CreateDefinition}
@@ -24,7 +22,7 @@ use Rattle.rx_schema.specs.Columns.{declared_column, declared_columns}
 use Rattle.rx_schema.specs.Indexes.{declared_part, declared_index, is_of, keys_by_number, declared_indexes}
 use Rattle.rx_schema.specs.Outcomes.{Answers}
 use Rattle.rx_schema.specs.Schema.{declared, name_refusal, refusal, unless_refused, schema_of, outcome_of, read_of}
-use Rattle.rx_schema.specs.Tables.{IsSize, size_8, size_16, size_24, size_32, size_64, IsKind, IsTypedColumn, IsWholePart, IsNamedIndex, names_of, index_names_of, IsGiven}
+use Rattle.rx_schema.specs.Tables.{IsWholePart, IsNamedIndex, names_of, index_names_of, IsDeclarable}
 use Rattle.rx_schema.proofs.Every.{every_map, every_both, every_of, of_every, every_append, every_filter, every_passes, to_all, none_given, or_none, map_none, every_column, every_key, none_pass, every_any, filter_all, filter_none, filter_of, map_same, map_both}
 use Rattle.rx_schema.proofs.Fitting.{IsSoundKey, fits}
 use Rattle.rx_schema.proofs.Grammar.{IsNamedKey, IsNamedItem, IsNamedTable, primary_named, named_table}
@@ -168,6 +166,10 @@ primary_first names [] others one h = every_drop _ _ (all_others names others h)
 primary_first names (k ∷ []) others one h = all_others names others h
 primary_first names (k ∷ j ∷ ks) others one h = absurd (omega arith)
 
+typed_column : (items : List CreateDefinition) (c : ColumnDefinition) → IsColType (declared_column items c).kind
+unfolding declared_column
+typed_column items c = column_kind c
+
 -- the indexes within the limits
 shape : (create : CreateTable) → IsAccepted create.definitions → IsNamedTable create → IsSchema (declared create)
 unfolding declared
@@ -178,6 +180,7 @@ shape create is named =
     let numbered = every_append (IsSoundKey items) (first_keys items) (other_keys items) (every_filter (IsSoundKey items) (is_of true) (keys_in items) keys) (every_filter (IsSoundKey items) (is_of false) (keys_in items) keys) in
     record {
       few_columns = rw (length-map (columns_in items) (declared_column items)) is.limits.columns;
+      types = to_all _ _ (every_of (λ c. IsColType c.kind) (declared_column items) (columns_in items) (every_any _ (typed_column items) (columns_in items)));
       few_indexes = rw (others items, length-map (other_keys items) (declared_index (column_names items))) is.limits.indexes;
       indexes = to_all _ _ (every_of (FitsIndex (declared_columns items)) (declared_index (column_names items)) (keys_by_number items) (every_map (IsSoundKey items) (λ k. FitsIndex (declared_columns items) (declared_index (column_names items) k)) (fits items) (keys_by_number items) numbered));
       primary_first = to_all _ _ (primary_first (column_names items) (first_keys items) (other_keys items) cut.one (every_passes (is_of false) (keys_in items)));
@@ -197,10 +200,6 @@ named_index names k named = record {
   parts = to_all _ _ (every_of IsWholePart (declared_part names) k.parts (every_any _ (λ p. record { rising = refl; whole = refl }) k.parts));
 }
 
-typed_column : (items : List CreateDefinition) (c : ColumnDefinition) → IsName c.name → IsTypedColumn (declared_column items c)
-unfolding declared_column
-typed_column items c named = record { name = named; kind = column_kind c }
-
 column_name_of : (items : List CreateDefinition) (c : ColumnDefinition) → (declared_column items c).name ≡ c.name
 unfolding declared_column
 column_name_of items c = refl
@@ -219,7 +218,7 @@ indexes_named items e =
     ap (λ ns. primary_name ∷ ns) (ap (map (λ i. i.name)) (others items) ∙ map_both (declared_index (column_names items)) (λ i. i.name) (other_keys items)
     ∙ map_same (λ k. (declared_index (column_names items) k).name) index_name (declared_name (column_names items)) (other_keys items) ∙ ap (map index_name) (sym e))
 
-given : (create : CreateTable) → IsAccepted create.definitions → IsNamedTable create → IsGiven (declared create)
+given : (create : CreateTable) → IsAccepted create.definitions → IsNamedTable create → IsDeclarable (declared create)
 unfolding declared
 given create is named =
     let items = create.definitions in
@@ -230,7 +229,7 @@ given create is named =
       shape = shape create is named;
       table = named.table;
       some = rw (length-map (columns_in items) (declared_column items)) (has_column items named.column);
-      columns = to_all _ _ (every_of IsTypedColumn (declared_column items) (columns_in items) (every_map (λ c. IsName c.name) (λ c. IsTypedColumn (declared_column items c)) (typed_column items) (columns_in items) (every_column IsNamedItem (λ c. IsName c.name) (λ c h. h) items named.items)));
+      columns = to_all _ _ (every_of (λ c. IsName c.name) (declared_column items) (columns_in items) (every_map (λ c. IsName c.name) (λ c. IsName (declared_column items c).name) (λ c h. subst IsName (sym (column_name_of items c)) h) (columns_in items) (every_column IsNamedItem (λ c. IsName c.name) (λ c h. h) items named.items)));
       indexes = to_all _ _ (every_of IsNamedIndex (declared_index (column_names items)) (keys_by_number items) (every_map IsNamedKey (λ k. IsNamedIndex (declared_index (column_names items) k)) (named_index (column_names items)) (keys_by_number items) numbered));
       columns_differ = ap first_repeated (columns_named items) ∙ is.columns;
       indexes_differ = ap first_repeated (indexes_named items cut.further) ∙ is.indexes;
@@ -241,37 +240,18 @@ pub unrefused : (o : Option SchemaFault) (d s : Schema) → unless_refused o d �
 unrefused None d s e = (refl, cc)
 unrefused (Some fault) d s e = absurd cc
 
-by_statement : (o : Option CreateTable) (s : Schema) → IfSome o IsNamedTable → outcome_of o ≡ Ok s → IsGiven s
+by_statement : (o : Option CreateTable) (s : Schema) → IfSome o IsNamedTable → outcome_of o ≡ Ok s → IsDeclarable s
 unfolding schema_of
 by_statement None s named e = absurd cc
 by_statement (Some create) s named e =
     let done = unrefused (refusal create) (declared create) s e in
-    subst IsGiven done.1 (given create (accepted create done.0) named)
+    subst IsDeclarable done.1 (given create (accepted create done.0) named)
 
-pub read_given : (text : List ℕ) (s : Schema) → read_of text ≡ Ok s → IsGiven s
+pub read_given : (text : List ℕ) (s : Schema) → read_of text ≡ Ok s → IsDeclarable s
 unfolding read_of
 read_given text s e = by_statement (create_form text) s (named_table text) e
 
 -- the same of a result
-pub answer_given : (text : List ℕ) (r : Result Schema SchemaFault) → Answers (read_of text) r → IfOk r IsGiven
+pub answer_given : (text : List ℕ) (r : Result Schema SchemaFault) → Answers (read_of text) r → IfOk r IsDeclarable
 answer_given text (Ok s) h = read_given text s h
 answer_given text (Err fault) h = tt
-
-pub answer_fits : (text : List ℕ) (r : Result Schema SchemaFault) → Answers (read_of text) r → IfOk r IsSchema
-answer_fits text (Ok s) h = (read_given text s h).shape
-answer_fits text (Err fault) h = tt
-
-size_within : (bits : ℕ) → IsSize bits → (1 ≤ bits) × (bits ≤ 64)
-size_within _ size_8 = (omega arith, omega arith)
-size_within _ size_16 = (omega arith, omega arith)
-size_within _ size_24 = (omega arith, omega arith)
-size_within _ size_32 = (omega arith, omega arith)
-size_within _ size_64 = (omega arith, omega arith)
-
-kind_sized : (kind : ColType) → IsKind kind → IsSized kind
-kind_sized (Whole bits signed) h = size_within bits h
-kind_sized (VarChar count) h = tt
-
-pub answer_sized : (text : List ℕ) (r : Result Schema SchemaFault) → Answers (read_of text) r → IfOk r (λ s. All (λ c. IsSized c.kind) s.columns)
-answer_sized text (Ok s) h = λ k d b. kind_sized _ (((read_given text s h).columns k d b).kind)
-answer_sized text (Err fault) h = tt

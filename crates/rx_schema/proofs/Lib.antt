@@ -5,7 +5,6 @@ pub mod Fitting
 pub mod Giving
 pub mod Grammar
 pub mod Places
-pub mod Readers
 pub mod Repeats
 pub mod Restoring
 pub mod Stating

@@ -9,7 +9,7 @@ use Rattle.rx_value.specs.declared.shapes.Column.{Column}
 use Rattle.rx_value.specs.declared.shapes.Part.{Part}
 use Rattle.rx_value.specs.declared.shapes.Index.{Index}
 use Rattle.rx_value.specs.declared.shapes.Schema.{Schema}
-use Rattle.rx_value.specs.Shape.{IsNotNull, FitsIndex}
+use Rattle.rx_value.specs.Shape.{IsColType, IsNotNull, FitsIndex}
 use Rattle.rx_ddl.specs.declared.statements.ColumnDefinition.{ColumnDefinition}
 use Rattle.rx_ddl.specs.declared.statements.KeyDefinition.{KeyDefinition}
 use Rattle.rx_ddl.specs.declared.statements.CreateDefinition.{CreateDefinition}
@@ -20,7 +20,8 @@ use Rattle.rx_schema.specs.Profile.{type_word, characters, is_unsigned}
 use Rattle.rx_schema.specs.Columns.{may_be_null, is_in_primary, typed, declared_column, declared_columns}
 use Rattle.rx_schema.specs.Indexes.{is_unique_kind, column_number, declared_part, declared_index, is_of, keys_by_number, declared_indexes}
 use Rattle.rx_schema.specs.Schema.{declared, schema_of, outcome_of, read_of}
-use Rattle.rx_schema.specs.Tables.{IsKind, IsTypedColumn, IsWholePart, IsNamedIndex, names_of, IsGiven}
+use Rattle.rx_schema.specs.Tables.{IsWholePart, IsNamedIndex, names_of, IsDeclarable}
+use Rattle.rx_schema.proofs.Typing.{IsTypedColumn, typed_columns}
 use Rattle.rx_schema.specs.Writing.{kind_word, kind_arguments, sign_marks, null_marks, column_definition, name_of, part_definition, key_kind, key_definition, definitions_of, statement_of, text_of}
 use Rattle.rx_schema.proofs.Accepting.{word_back, text_back, primary_by, key_primary, own_keys, column_names_back, keys_secondary, other_name, names_apart, columns_apart, unrefused}
 use Rattle.rx_schema.proofs.Apart.{name_at, places_apart, number_back}
@@ -39,7 +40,7 @@ sign_back bits false false = refl
 characters_back : (count : ℕ) → count ≤ 255 → unwrap_or (characters (kind_arguments (VarChar count))) 0 ≡ count
 characters_back count h = rw (le-leb count 255 h) refl
 
-type_back : (kind : ColType) (nullable : Bool) (column : ColumnDefinition) → IsKind kind → column.kind ≡ kind_word kind → column.arguments ≡ kind_arguments kind → column.attributes ≡ sign_marks kind ++ null_marks nullable → typed (type_word column.kind) column ≡ kind
+type_back : (kind : ColType) (nullable : Bool) (column : ColumnDefinition) → IsColType kind → column.kind ≡ kind_word kind → column.arguments ≡ kind_arguments kind → column.attributes ≡ sign_marks kind ++ null_marks nullable → typed (type_word column.kind) column ≡ kind
 type_back (Whole bits signed) nullable column h e f g =
     ap (λ w. typed w column) (ap type_word e ∙ word_back bits h) ∙ ap (λ b. Whole bits (not b)) (ap (list_any is_unsigned) g) ∙ ap (Whole bits) (sign_back bits signed nullable)
 type_back (VarChar count) nullable column h e f g =
@@ -105,19 +106,19 @@ key_without C apart n c e null i fits =
       | inr f ↦ ap (λ b. b && is_among (part_names (key_definition C i)) c.name) (key_primary C i ∙ f)
     ]
 
-not_in_primary : (s : Schema) → IsGiven s → (n : ℕ) (c : Column) → slice_get s.columns n ≡ Some c → c.nullable ≡ true → is_in_primary (definitions_of s) c.name ≡ false
+not_in_primary : (s : Schema) → IsDeclarable s → (n : ℕ) (c : Column) → slice_get s.columns n ≡ Some c → c.nullable ≡ true → is_in_primary (definitions_of s) c.name ≡ false
 not_in_primary s is n c e null =
     let C = s.columns in
     ap (list_any (λ key. is_primary key && is_among (part_names key) c.name)) (keys_back C C s.indexes)
     ∙ pass_none (λ key. is_primary key && is_among (part_names key) c.name) (own_keys s) (every_of (λ k. (is_primary k && is_among (part_names k) c.name) ≡ false) (key_definition C) s.indexes
     (every_map (FitsIndex C) (λ i. (is_primary (key_definition C i) && is_among (part_names (key_definition C i)) c.name) ≡ false) (key_without C (columns_apart s is) n c e null) s.indexes (from_all (FitsIndex C) s.indexes is.shape.indexes)))
 
-columns_restored : (s : Schema) → IsGiven s → declared_columns (definitions_of s) ≡ s.columns
+columns_restored : (s : Schema) → IsDeclarable s → declared_columns (definitions_of s) ≡ s.columns
 columns_restored s is =
     let C = s.columns in
     let Free : Column → Type 0 = λ c. c.nullable ≡ true → is_in_primary (definitions_of s) c.name ≡ false in
     ap (map (declared_column (definitions_of s))) (columns_back C C s.indexes)
-    ∙ map_back column_definition (declared_column (definitions_of s)) C (every_both IsTypedColumn Free (λ c. declared_column (definitions_of s) (column_definition c) ≡ c) (column_back (definitions_of s)) C (from_all IsTypedColumn C is.columns) (by_places Free C (not_in_primary s is)))
+    ∙ map_back column_definition (declared_column (definitions_of s)) C (every_both IsTypedColumn Free (λ c. declared_column (definitions_of s) (column_definition c) ≡ c) (column_back (definitions_of s)) C (typed_columns s is) (by_places Free C (not_in_primary s is)))
 
 -- a part and an index are read back
 part_same : (p : Part) (n : ℕ) → n ≡ p.column → IsWholePart p → record { column = n; descending = false; chars = None } ≡ p
@@ -171,7 +172,7 @@ all_in_order : (C : List Column) (indexes : List Index) → AllByRecursion (λ i
 all_in_order C [] h = refl
 all_in_order C (i ∷ indexes) h = in_order C i indexes h
 
-indexes_restored : (s : Schema) → IsGiven s → declared_indexes (definitions_of s) ≡ s.indexes
+indexes_restored : (s : Schema) → IsDeclarable s → declared_indexes (definitions_of s) ≡ s.indexes
 indexes_restored s is =
     let C = s.columns in
     let Other : Index → Type 0 = λ i. not i.primary ≡ true → same i.name primary_name ≡ false in
@@ -186,16 +187,16 @@ schema_same : (s t : Schema) → t.table ≡ s.table → t.columns ≡ s.columns
 schema_same s t e f g =
     ap (λ v. record { table = v; columns = t.columns; indexes = t.indexes }) e ∙ ap (λ v. record { table = s.table; columns = v; indexes = t.indexes }) f ∙ ap (λ v. record { table = s.table; columns = s.columns; indexes = v }) g
 
-restored : (s : Schema) → IsGiven s → declared (statement_of s) ≡ s
+restored : (s : Schema) → IsDeclarable s → declared (statement_of s) ≡ s
 unfolding declared statement_of
 restored s is = schema_same s (declared (statement_of s)) refl (columns_restored s is) (indexes_restored s is)
 
 -- the statement of a schema declares it
-pub declared_again : (s : Schema) → IsGiven s → schema_of (statement_of s) ≡ Ok s
+pub declared_again : (s : Schema) → IsDeclarable s → schema_of (statement_of s) ≡ Ok s
 unfolding schema_of
 declared_again s is = rw (unrefused s is, restored s is) refl
 
-pub read_again : (s : Schema) → IsGiven s → read_of (text_of s) ≡ Ok s
+pub read_again : (s : Schema) → IsDeclarable s → read_of (text_of s) ≡ Ok s
 unfolding read_of text_of
 read_again s is = ap outcome_of (statement_law (statement_of s) (statement_canonical s is)) ∙ declared_again s is
 

@@ -9,16 +9,17 @@ use Rattle.rx_value.specs.declared.shapes.Column.{Column}
 use Rattle.rx_value.specs.declared.shapes.Part.{Part}
 use Rattle.rx_value.specs.declared.shapes.Index.{Index}
 use Rattle.rx_value.specs.declared.shapes.Schema.{Schema}
-use Rattle.rx_value.specs.Shape.{FitsIndex}
+use Rattle.rx_value.specs.Shape.{HasWidth, IsColType, FitsIndex}
 use Rattle.rx_ddl.specs.declared.statements.CreateDefinition.{CreateDefinition}
 use Rattle.rx_ddl.specs.declared.statements.CreateDefinition.TheVariants as of
 use Rattle.rx_ddl.specs.Canonical.{IsName, IsTypeWord, is_tinyint, is_smallint, is_mediumint, is_int, is_bigint, is_varchar, IsWidth, IsMarks, IsCanonicalColumn, IsKeyName, IsCanonicalPart, IsCanonicalKey, IsCanonicalDefinition, IsCanonical}
 use Rattle.rx_ddl.specs.Create.{is_column}
 use Rattle.rx_schema.specs.Given.{columns_in, keys_in}
 use Rattle.rx_schema.specs.Names.{primary_name}
-use Rattle.rx_schema.specs.Tables.{IsSize, size_8, size_16, size_24, size_32, size_64, IsKind, IsTypedColumn, IsNamedIndex, IsGiven}
+use Rattle.rx_schema.specs.Tables.{IsNamedIndex, IsDeclarable}
 use Rattle.rx_schema.specs.Writing.{size_word, kind_word, kind_arguments, sign_marks, null_marks, column_definition, name_of, part_definition, key_kind, key_definition, statement_of}
 use Rattle.rx_schema.proofs.Every.{every_map, every_both, every_of, every_append, to_all, from_all}
+use Rattle.rx_schema.proofs.Typing.{by_width, IsTypedColumn, typed_columns}
 
 -- the columns and the keys of a statement of columns and then keys
 no_columns : (C : List Column) (indexes : List Index) → columns_in (map (λ i. of.Key (key_definition C i)) indexes) ≡ []
@@ -38,19 +39,15 @@ keys_back C [] indexes = all_keys C indexes
 keys_back C (c ∷ columns) indexes = keys_back C columns indexes
 
 -- a type's word, argument and marks
-word_written : (bits : ℕ) → IsSize bits → IsTypeWord (size_word bits)
+word_written : (bits : ℕ) → HasWidth bits → IsTypeWord (size_word bits)
 unfolding size_word
-word_written _ size_8 = is_tinyint
-word_written _ size_16 = is_smallint
-word_written _ size_24 = is_mediumint
-word_written _ size_32 = is_int
-word_written _ size_64 = is_bigint
+word_written bits h = by_width (λ b. IsTypeWord (size_word b)) is_tinyint is_smallint is_mediumint is_int is_bigint bits h
 
-kind_written : (kind : ColType) → IsKind kind → IsTypeWord (kind_word kind)
+kind_written : (kind : ColType) → IsColType kind → IsTypeWord (kind_word kind)
 kind_written (Whole bits signed) h = word_written bits h
 kind_written (VarChar count) h = is_varchar
 
-width_written : (kind : ColType) → IsKind kind → IsWidth (kind_arguments kind)
+width_written : (kind : ColType) → IsColType kind → IsWidth (kind_arguments kind)
 width_written (Whole bits signed) h = tt
 width_written (VarChar count) h = omega arith
 
@@ -96,11 +93,11 @@ has_column : (columns : List Column) (others : List CreateDefinition) → 1 ≤ 
 has_column [] others h = absurd (omega arith)
 has_column (c ∷ columns) others h = refl
 
-pub names_given : (s : Schema) → IsGiven s → AllByRecursion (λ c. IsName c.name) s.columns
-names_given s is = every_map IsTypedColumn (λ c. IsName c.name) (λ c h. h.name) s.columns (from_all IsTypedColumn s.columns is.columns)
+pub names_given : (s : Schema) → IsDeclarable s → AllByRecursion (λ c. IsName c.name) s.columns
+names_given s is = from_all _ s.columns is.columns
 
 -- the statement's text says all of it
-pub statement_canonical : (s : Schema) → IsGiven s → IsCanonical (statement_of s)
+pub statement_canonical : (s : Schema) → IsDeclarable s → IsCanonical (statement_of s)
 unfolding statement_of
 statement_canonical s is =
     let C = s.columns in
@@ -108,7 +105,7 @@ statement_canonical s is =
       table = is.table;
       column = has_column C (map (λ i. of.Key (key_definition C i)) s.indexes) is.some;
       definitions = to_all _ _ (every_append IsCanonicalDefinition (map (λ c. of.Column (column_definition c)) C) (map (λ i. of.Key (key_definition C i)) s.indexes)
-          (every_of IsCanonicalDefinition (λ c. of.Column (column_definition c)) C (every_map IsTypedColumn (λ c. IsCanonicalColumn (column_definition c)) column_written C (from_all IsTypedColumn C is.columns)))
+          (every_of IsCanonicalDefinition (λ c. of.Column (column_definition c)) C (every_map IsTypedColumn (λ c. IsCanonicalColumn (column_definition c)) column_written C (typed_columns s is)))
           (every_of IsCanonicalDefinition (λ i. of.Key (key_definition C i)) s.indexes (every_both (FitsIndex C) IsNamedIndex (λ i. IsCanonicalKey (key_definition C i)) (λ i f n. key_written C (names_given s is) i f n) s.indexes (from_all (FitsIndex C) s.indexes is.shape.indexes) (from_all IsNamedIndex s.indexes is.indexes))));
       options = refl;
     }

@@ -1,6 +1,6 @@
 -- The indexes that a statement declares.
 use Rattle.std.specs.Prelude.{ℕ, Bool, true, false, List, ◌++◌, None, map, filter, position, unwrap_or}
-use Rattle.std.specs.Str.{str_eq_ignore_ascii_case}
+use Rattle.rx_value.specs.Names.{same_name}
 use Rattle.rx_value.specs.declared.shapes.Part.{Part}
 use Rattle.rx_value.specs.declared.shapes.Index.{Index}
 use Rattle.rx_ddl.specs.declared.statements.KeyKind.{KeyKind}
@@ -20,7 +20,7 @@ is_unique_kind _ = false
 
 -- the number of the first column of a name, from 0, among the names of the columns
 abbrev pub column_number : List (List ℕ) → List ℕ → ℕ
-column_number names name = unwrap_or (position (λ other. str_eq_ignore_ascii_case name other) names) 0
+column_number names name = unwrap_or (position (λ other. same_name name other) names) 0
 
 -- a part of an index, rising and whole
 abbrev pub declared_part : List (List ℕ) → KeyPart → Part

@@ -2,7 +2,7 @@
 use Rattle.std.specs.Prelude.{ℕ, Bool, not, List, [], ◌∷◌, ◌++◌, Option, Some, None, map, codes, find, if◌then◌else◌}
 use Rattle.std.specs.Option.{option_or}
 use Rattle.std.specs.List.{list_any}
-use Rattle.std.specs.Str.{str_eq_ignore_ascii_case}
+use Rattle.rx_value.specs.Names.{same_name}
 use Rattle.rx_ddl.specs.declared.statements.KeyDefinition.{KeyDefinition}
 use Rattle.rx_ddl.specs.declared.statements.CreateDefinition.{CreateDefinition}
 use Rattle.rx_schema.specs.Given.{first_given, columns_in, keys_in}
@@ -24,7 +24,7 @@ primary_name = codes "PRIMARY"
 unfoldable pub index_name : KeyDefinition → List ℕ
 index_name key =
     if is_primary key then primary_name
-    else (if str_eq_ignore_ascii_case key.name primary_name then primary_name else key.name)
+    else (if same_name key.name primary_name then primary_name else key.name)
 
 -- the keys but the first primary one
 abbrev pub further_keys : List KeyDefinition → List KeyDefinition
@@ -38,7 +38,7 @@ index_names items = primary_name ∷ map index_name (further_keys (keys_in items
 
 -- a name is one of these
 abbrev pub is_among : List (List ℕ) → List ℕ → Bool
-is_among names name = list_any (λ other. str_eq_ignore_ascii_case name other) names
+is_among names name = list_any (λ other. same_name name other) names
 
 -- the first of the names that an earlier one of them equals, or one of those before
 abbrev pub repeated_after : List (List ℕ) → List (List ℕ) → Option (List ℕ)

@@ -2,7 +2,7 @@
 use Rattle.std.specs.Prelude.{ℕ, Bool, true, false, ◌||◌, List, [], ◌∷◌, Option, Some, None, is_some, is_none, codes, nat_le, if◌then◌else◌}
 use Rattle.std.specs.Option.{option_or}
 use Rattle.std.specs.List.{list_any, ends_with}
-use Rattle.std.specs.Str.{str_eq_ignore_ascii_case}
+use Rattle.rx_value.specs.Names.{same_name}
 use Rattle.rx_ddl.specs.declared.statements.Argument.{Argument}
 use Rattle.rx_ddl.specs.declared.statements.Argument.TheVariants.{Number, Text}
 use Rattle.rx_ddl.specs.declared.statements.Attribute.{Attribute}
@@ -11,6 +11,8 @@ use Rattle.rx_ddl.specs.declared.statements.ColumnDefinition.{ColumnDefinition}
 use Rattle.rx_ddl.specs.declared.statements.KeyKind.{KeyKind}
 use Rattle.rx_ddl.specs.declared.statements.KeyKind.TheVariants.{Fulltext, Spatial}
 use Rattle.rx_ddl.specs.declared.statements.KeyPart.{KeyPart}
+use Rattle.rx_ddl.specs.declared.statements.Method.{Method}
+use Rattle.rx_ddl.specs.declared.statements.Method.TheVariants.{Using, Comment}
 use Rattle.rx_ddl.specs.declared.statements.KeyDefinition.{KeyDefinition}
 use Rattle.rx_ddl.specs.declared.statements.CreateDefinition.{CreateDefinition}
 use Rattle.rx_ddl.specs.declared.statements.CreateDefinition.TheVariants.{Column, Key}
@@ -26,12 +28,12 @@ use Rattle.rx_schema.specs.Given.{first_given, last_given}
 -- the type that a word names
 unfoldable pub type_word : List ℕ → TypeWord
 type_word word =
-    if str_eq_ignore_ascii_case word (codes "tinyint") then is.Whole 8
-    else (if str_eq_ignore_ascii_case word (codes "smallint") then is.Whole 16
-    else (if str_eq_ignore_ascii_case word (codes "mediumint") then is.Whole 24
-    else (if str_eq_ignore_ascii_case word (codes "int") then is.Whole 32
-    else (if str_eq_ignore_ascii_case word (codes "bigint") then is.Whole 64
-    else (if str_eq_ignore_ascii_case word (codes "varchar") then is.VarChar
+    if same_name word (codes "tinyint") then is.Whole 8
+    else (if same_name word (codes "smallint") then is.Whole 16
+    else (if same_name word (codes "mediumint") then is.Whole 24
+    else (if same_name word (codes "int") then is.Whole 32
+    else (if same_name word (codes "bigint") then is.Whole 64
+    else (if same_name word (codes "varchar") then is.VarChar
     else is.Other)))))
 
 -- the number of characters of a varchar: its only argument, a number of at most 255
@@ -53,11 +55,11 @@ is_zerofill _ = false
 
 -- the one collation
 unfoldable pub is_collation : List ℕ → Bool
-is_collation name = str_eq_ignore_ascii_case name (codes "utf8mb4_0900_bin")
+is_collation name = same_name name (codes "utf8mb4_0900_bin")
 
 -- the one character set
 unfoldable pub is_character_set : List ℕ → Bool
-is_character_set name = str_eq_ignore_ascii_case name (codes "utf8mb4")
+is_character_set name = same_name name (codes "utf8mb4")
 
 -- whether COLLATE names the one collation
 abbrev pub own_collation : Attribute → Option Bool
@@ -71,7 +73,7 @@ own_character_set _ = None
 
 -- the words end in these, without ASCII case
 abbrev pub ends_in : List (List ℕ) → List (List ℕ) → Bool
-ends_in words last = ends_with str_eq_ignore_ascii_case words last
+ends_in words last = ends_with same_name words last
 
 -- COLLATE at the end
 abbrev pub ends_in_collate : List (List ℕ) → Bool
@@ -102,61 +104,62 @@ is_another (Some true) = false
 is_another (Some false) = true
 
 -- a varchar column takes its own collation, else the table's, and it is another than the one
-abbrev pub takes_collation : Defaults → List Attribute → Bool
-takes_collation defaults attributes =
+abbrev pub takes_another_collation : Defaults → List Attribute → Bool
+takes_another_collation defaults attributes =
     is_another (option_or (last_given own_collation attributes) defaults.collation)
 
 -- the same of its character set
-abbrev pub takes_character_set : Defaults → List Attribute → Bool
-takes_character_set defaults attributes =
+abbrev pub takes_another_character_set : Defaults → List Attribute → Bool
+takes_another_character_set defaults attributes =
     is_another (option_or (last_given own_character_set attributes) defaults.character_set)
 
 -- the first thing that is outside the profile of a varchar column
-unfoldable pub text_place : Defaults → ColumnDefinition → Option Which
-text_place defaults column =
+unfoldable pub text_misfit : Defaults → ColumnDefinition → Option Which
+text_misfit defaults column =
     if list_any is_unsigned column.attributes then Some no.ColumnType
     else (if is_none (characters column.arguments) then Some no.Length
     else (if list_any is_zerofill column.attributes then Some no.Zerofill
-    else (if takes_collation defaults column.attributes then Some no.Collation
-    else (if takes_character_set defaults column.attributes then Some no.CharacterSet
+    else (if takes_another_collation defaults column.attributes then Some no.Collation
+    else (if takes_another_character_set defaults column.attributes then Some no.CharacterSet
     else None))))
 
 -- the same by a column's type
-abbrev pub typed_place : TypeWord → Defaults → ColumnDefinition → Option Which
-typed_place (is.Whole bits) defaults column =
+abbrev pub typed_misfit : TypeWord → Defaults → ColumnDefinition → Option Which
+typed_misfit (is.Whole bits) defaults column =
     if list_any is_zerofill column.attributes then Some no.Zerofill else None
-typed_place is.VarChar defaults column = text_place defaults column
-typed_place is.Other defaults column = Some no.ColumnType
+typed_misfit is.VarChar defaults column = text_misfit defaults column
+typed_misfit is.Other defaults column = Some no.ColumnType
 
 -- the same of any column: all that it has stands at its name
-abbrev pub column_place : Defaults → ColumnDefinition → Option Which
-column_place defaults column = typed_place (type_word column.kind) defaults column
+abbrev pub column_misfit : Defaults → ColumnDefinition → Option Which
+column_misfit defaults column = typed_misfit (type_word column.kind) defaults column
 
 -- FULLTEXT and SPATIAL
-abbrev pub kind_place : KeyKind → Option Which
-kind_place Fulltext = Some no.KeyKind
-kind_place Spatial = Some no.KeyKind
-kind_place _ = None
+abbrev pub kind_misfit : KeyKind → Option Which
+kind_misfit Fulltext = Some no.KeyKind
+kind_misfit Spatial = Some no.KeyKind
+kind_misfit _ = None
 
 -- a prefix length, and DESC behind it
-abbrev pub part_place : KeyPart → Option Which
-part_place part = if is_some part.prefix then Some no.Prefix else (if part.descending then Some no.Descending else None)
+abbrev pub part_misfit : KeyPart → Option Which
+part_misfit part = if is_some part.prefix then Some no.Prefix else (if part.descending then Some no.Descending else None)
 
 -- USING with another word than BTREE
-abbrev pub method_place : List ℕ → Option Which
-method_place word = if str_eq_ignore_ascii_case word (codes "BTREE") then None else Some no.KeyKind
+abbrev pub method_misfit : Method → Option Which
+method_misfit (Using word) = if same_name word (codes "BTREE") then None else Some no.KeyKind
+method_misfit Comment = None
 
--- the first thing of a key that is outside the profile: its kind, then its parts, then the words behind USING
-unfoldable pub key_place : KeyDefinition → Option Which
-key_place key =
-    option_or (kind_place key.kind)
-    (option_or (first_given part_place key.parts) (first_given method_place key.methods))
+-- the first thing of a key that is outside the profile: its kind, then its parts, then what stands behind them
+unfoldable pub key_misfit : KeyDefinition → Option Which
+key_misfit key =
+    option_or (kind_misfit key.kind)
+    (option_or (first_given part_misfit key.parts) (first_given method_misfit key.methods))
 
 -- the same of a column or a key
-abbrev pub item_place : Defaults → CreateDefinition → Option Which
-item_place defaults (Column column) = column_place defaults column
-item_place defaults (Key key) = key_place key
+abbrev pub item_misfit : Defaults → CreateDefinition → Option Which
+item_misfit defaults (Column column) = column_misfit defaults column
+item_misfit defaults (Key key) = key_misfit key
 
 -- The first place in text order that is outside the profile.
-unfoldable pub first_place : CreateTable → Option Which
-first_place create = first_given (item_place (defaults_of create.options)) create.definitions
+unfoldable pub first_misfit : CreateTable → Option Which
+first_misfit create = first_given (item_misfit (defaults_of create.options)) create.definitions

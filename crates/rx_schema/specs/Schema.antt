@@ -12,7 +12,7 @@ use Rattle.rx_schema.specs.Indexes.{declared_indexes}
 use Rattle.rx_schema.specs.Limits.{too_many}
 use Rattle.rx_schema.specs.Names.{first_duplicate, first_unknown}
 use Rattle.rx_schema.specs.Outcomes.{Outcome}
-use Rattle.rx_schema.specs.Profile.{first_place}
+use Rattle.rx_schema.specs.Profile.{first_misfit}
 
 -- the table, its columns and its indexes
 unfoldable pub declared : CreateTable → Schema
@@ -31,7 +31,7 @@ name_refusal items =
 -- why a statement declares no schema: a place outside the profile, else a limit, else a name
 unfoldable pub refusal : CreateTable → Option SchemaFault
 refusal create =
-    option_or (option_map (λ which. NotInProfile which) (first_place create))
+    option_or (option_map (λ which. NotInProfile which) (first_misfit create))
     (option_or (option_map (λ which. TooMany which) (too_many create.definitions)) (name_refusal create.definitions))
 
 -- an outcome, where nothing is refused

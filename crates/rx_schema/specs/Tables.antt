@@ -1,7 +1,5 @@
--- The schemas that are read.
+-- The schemas that statements declare.
 use Rattle.std.specs.Prelude.{◌≡◌, ℕ, ◌≤◌, false, true, not, List, ◌∷◌, length, map, filter, All, None}
-use Rattle.rx_value.specs.declared.shapes.ColType.{ColType}
-use Rattle.rx_value.specs.declared.shapes.ColType.TheVariants.{Whole, VarChar}
 use Rattle.rx_value.specs.declared.shapes.Part.{Part}
 use Rattle.rx_value.specs.declared.shapes.Column.{Column}
 use Rattle.rx_value.specs.declared.shapes.Index.{Index}
@@ -9,24 +7,6 @@ use Rattle.rx_value.specs.declared.shapes.Schema.{Schema}
 use Rattle.rx_value.specs.Shape.{IsSchema}
 use Rattle.rx_ddl.specs.Canonical.{IsName}
 use Rattle.rx_schema.specs.Names.{primary_name, first_repeated}
-
--- the sizes of the integer types in bits
-pub data IsSize : ℕ → Type 0 where
-  size_8 : IsSize 8
-  size_16 : IsSize 16
-  size_24 : IsSize 24
-  size_32 : IsSize 32
-  size_64 : IsSize 64
-
--- an integer type, or a text of at most 255 characters
-abbrev pub IsKind : ColType → Type 0
-IsKind (Whole bits signed) = IsSize bits
-IsKind (VarChar count) = count ≤ 255
-
--- a column with a name, of such a type
-pub record IsTypedColumn (column : Column) : Type 0 where
-  pub name : IsName column.name
-  pub kind : IsKind column.kind
 
 -- a part of an index, rising and whole
 pub record IsWholePart (part : Part) : Type 0 where
@@ -47,13 +27,13 @@ names_of columns = map (λ c. c.name) columns
 abbrev pub index_names_of : List Index → List (List ℕ)
 index_names_of indexes = primary_name ∷ map (λ i. i.name) (filter (λ i. not i.primary) indexes)
 
--- What is read is a schema within the limits. It has a column, names of 1 to 64 bytes from 32 to 126, no two columns and
--- no two indexes of one name without case, types that are read, and parts that rise and are whole.
-pub record IsGiven (schema : Schema) : Type 0 where
+-- Some statement declares the schema: it is one within the limits, and has a column, names of 1 to 64 bytes from 32 to 126,
+-- no two columns and no two indexes of one name without case, and parts that rise and are whole.
+pub record IsDeclarable (schema : Schema) : Type 0 where
   pub shape : IsSchema schema
   pub table : IsName schema.table
   pub some : 1 ≤ length schema.columns
-  pub columns : All IsTypedColumn schema.columns
+  pub columns : All (λ c. IsName c.name) schema.columns
   pub indexes : All IsNamedIndex schema.indexes
   pub columns_differ : first_repeated (names_of schema.columns) ≡ None
   pub indexes_differ : first_repeated (index_names_of schema.indexes) ≡ None

@@ -1,4 +1,5 @@
 ghost use Rattle.std.specs.Prelude.{◌≡◌, ◌≤◌, None, Err, length, IfOk};
+ghost use Rattle.rx_value.specs.Limits.{most_columns};
 ghost use Rattle.rx_schema.specs.Limits.{too_many};
 ghost use Rattle.rx_schema.specs.Names.{column_names};
 ghost use Rattle.rx_schema.specs.Outcomes.{Answers};
@@ -9,7 +10,7 @@ use crate::faults::SchemaFault;
 use crate::indexes::declared_indexes;
 use crate::limits::too_many;
 use crate::names::{column_names, first_duplicate, first_unknown, index_names};
-use crate::profile::first_place;
+use crate::profile::first_misfit;
 use rx_ddl::CreateTable;
 use rx_value::{Bytes, Schema};
 use std::alloc::{AllocError, Global};
@@ -35,7 +36,7 @@ fn unknown_column(alloc: Global, name: &[u8]) -> SchemaFault
 /// The table, its columns and its indexes, by the names of the columns.
 #[tactic(auto, unfolding(crate::specs::Schema::declared))]
 fn declared(alloc: Global, names: &[Bytes], create: &CreateTable) -> Result<Schema, AllocError>
-    requires few { length names.now ≤ 256 }
+    requires few { length names.now ≤ most_columns }
     requires columns { names.now ≡ column_names create.now.definitions }
     ensures { IfOk result (λ schema. schema ≡ declared create.now) }
 {
@@ -77,7 +78,7 @@ fn named_schema(alloc: Global, create: &CreateTable) -> Result<Schema, SchemaFau
 pub(crate) fn schema_of(alloc: Global, create: &CreateTable) -> Result<Schema, SchemaFault>
     ensures { Answers (schema_of create.now) result }
 {
-    if let Some(which) = first_place(create) {
+    if let Some(which) = first_misfit(create) {
         return Err(SchemaFault::NotInProfile { which });
     }
     if let Some(which) = too_many(create.definitions.as_slice()) {

@@ -1,13 +1,14 @@
 ghost use Rattle.std.specs.Prelude.{◌≡◌, ◌≤◌, ◌<◌, ◌++◌, length, map, filter, position, IfOk, IfSome, OnOk};
-ghost use Rattle.std.specs.Str.{str_eq_ignore_ascii_case};
+ghost use Rattle.rx_value.specs.Limits.{most_columns};
+ghost use Rattle.rx_value.specs.Names.{same_name};
 ghost use Rattle.rx_schema.specs.Given.{keys_in};
 ghost use Rattle.rx_schema.specs.Names.{column_names};
 ghost use Rattle.rx_schema.specs.Indexes.{is_unique_kind, column_number, declared_part, declared_index, is_of, declared_indexes};
 
 use crate::limits::is_primary;
-use crate::names::{index_name, same_name};
+use crate::names::index_name;
 use rx_ddl::{CreateDefinition, KeyDefinition, KeyKind, KeyPart};
-use rx_value::{Bytes, Index, IndexList, Part, PartList};
+use rx_value::{Bytes, Index, IndexList, Part, PartList, same_name};
 use std::alloc::{AllocError, Global};
 
 fn is_unique_kind(kind: KeyKind) -> bool
@@ -17,7 +18,7 @@ fn is_unique_kind(kind: KeyKind) -> bool
 }
 
 fn place_of(names: &[Bytes], name: &[u8]) -> Option<usize>
-    ensures value { result ≡ position (λ other. str_eq_ignore_ascii_case name.now other) names.now }
+    ensures value { result ≡ position (λ other. same_name name.now other) names.now }
     ensures within { IfSome result (λ n. n < length names.now) }
 {
     names
@@ -27,7 +28,7 @@ fn place_of(names: &[Bytes], name: &[u8]) -> Option<usize>
 
 /// The number of the first column of a name, 0 where there is none.
 fn column_number(names: &[Bytes], name: &[u8]) -> u32
-    requires { length names.now ≤ 256 }
+    requires { length names.now ≤ most_columns }
     ensures { result ≡ column_number names.now name.now }
 {
     match place_of(names, name) {
@@ -37,7 +38,7 @@ fn column_number(names: &[Bytes], name: &[u8]) -> u32
 }
 
 fn declared_parts(alloc: Global, names: &[Bytes], parts: &[KeyPart]) -> Result<PartList, AllocError>
-    requires { length names.now ≤ 256 }
+    requires { length names.now ≤ most_columns }
     ensures { IfOk result (λ list. list ≡ map (declared_part names.now) parts.now) }
 {
     let mut list = PartList::new(alloc);
@@ -53,7 +54,7 @@ fn declared_parts(alloc: Global, names: &[Bytes], parts: &[KeyPart]) -> Result<P
 
 #[tactic(auto, unfolding(crate::specs::Indexes::declared_index))]
 fn declared_index(alloc: Global, names: &[Bytes], key: &KeyDefinition) -> Result<Index, AllocError>
-    requires { length names.now ≤ 256 }
+    requires { length names.now ≤ most_columns }
     ensures { IfOk result (λ index. index ≡ declared_index names.now key.now) }
 {
     Ok(Index {
@@ -72,7 +73,7 @@ fn push_indexes(
     primary: bool,
     indexes: &mut IndexList,
 ) -> Result<(), AllocError>
-    requires { length names.now ≤ 256 }
+    requires { length names.now ≤ most_columns }
     ensures { OnOk result (indexes.new ≡ indexes.old ++ map (declared_index names.now) (filter (is_of primary) (keys_in items.now))) }
 {
     for item in items {
@@ -92,7 +93,7 @@ pub(crate) fn declared_indexes(
     names: &[Bytes],
     items: &[CreateDefinition],
 ) -> Result<IndexList, AllocError>
-    requires few { length names.now ≤ 256 }
+    requires few { length names.now ≤ most_columns }
     requires columns { names.now ≡ column_names items.now }
     ensures { IfOk result (λ indexes. indexes ≡ declared_indexes items.now) }
 {

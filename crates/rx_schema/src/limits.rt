@@ -5,15 +5,7 @@ ghost use Rattle.rx_schema.specs.Limits.{is_primary_kind, is_primary, is_seconda
 
 use crate::faults::Many;
 use rx_ddl::{CreateDefinition, KeyDefinition, KeyKind};
-
-/// How many columns a table has at most.
-const MOST_COLUMNS: usize = 256;
-
-/// How many keys a table has at most besides the primary one.
-const MOST_INDEXES: usize = 64;
-
-/// How many parts a key has at most.
-const MOST_PARTS: usize = 16;
+use rx_value::{MOST_COLUMNS, MOST_INDEXES, MOST_PARTS};
 
 fn is_primary_kind(kind: KeyKind) -> bool
     ensures { result ≡ is_primary_kind kind }

@@ -1,20 +1,12 @@
 ghost use Rattle.std.specs.Prelude.{◌≡◌, IfOk, map, find};
 ghost use Rattle.std.specs.Option.{option_map};
-ghost use Rattle.std.specs.Str.{str_eq_ignore_ascii_case};
 ghost use Rattle.rx_schema.specs.Given.{first_given, keys_in};
 ghost use Rattle.rx_schema.specs.Names.{column_names, part_names, index_name, index_names, is_among, first_repeated, first_duplicate, is_missing, first_unknown};
 
 use crate::limits::is_primary;
 use rx_ddl::{CreateDefinition, KeyDefinition, KeyPart};
-use rx_value::{Bytes, NameList};
+use rx_value::{Bytes, NameList, same_name};
 use std::alloc::{AllocError, Global};
-
-/// Whether two names are the same without case.
-pub(crate) fn same_name(name: &[u8], other: &[u8]) -> bool
-    ensures { result ≡ str_eq_ignore_ascii_case name.now other.now }
-{
-    name.eq_ignore_ascii_case(other)
-}
 
 /// The names of the columns in text order.
 pub(crate) fn column_names(

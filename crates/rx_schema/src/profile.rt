@@ -1,20 +1,19 @@
 ghost use Rattle.std.specs.Prelude.{◌≡◌, length, drop, ◌-◌, codes, [], ◌∷◌};
 ghost use Rattle.std.specs.List.{list_any};
 ghost use Rattle.rx_schema.specs.Given.{first_given, last_given};
-ghost use Rattle.rx_schema.specs.Profile.{is_unsigned, is_zerofill, is_collation, is_character_set, own_collation, own_character_set, ends_in, ends_in_collate, ends_in_character_set, table_collation, table_character_set, defaults_of, is_another, takes_collation, takes_character_set, text_place, column_place, kind_place, part_place, method_place, key_place, item_place, first_place};
+ghost use Rattle.rx_schema.specs.Profile.{is_unsigned, is_zerofill, is_collation, is_character_set, own_collation, own_character_set, ends_in, ends_in_collate, ends_in_character_set, table_collation, table_character_set, defaults_of, is_another, takes_another_collation, takes_another_character_set, text_misfit, column_misfit, kind_misfit, part_misfit, method_misfit, key_misfit, item_misfit, first_misfit};
 
 use crate::faults::Which;
-use crate::names::same_name;
 use crate::types::{TypeWord, characters, type_word};
 use rx_ddl::{
     Attribute, ColumnDefinition, CreateDefinition, CreateTable, KeyDefinition, KeyKind, KeyPart,
-    TableOption,
+    Method, TableOption,
 };
-use rx_value::Bytes;
+use rx_value::{Bytes, same_name};
 
 /// Whether the collation and the character set that a table's options name last are the ones that are read, where
 /// they name any.
-#[derive(Clone, Copy, Debug, PartialEq, Eq)]
+#[derive(Clone, Copy)]
 pub(crate) struct Defaults {
     pub collation: Option<bool>,
     pub character_set: Option<bool>,
@@ -175,8 +174,8 @@ fn is_another(one: Option<bool>) -> bool
 }
 
 /// Whether a column's own collation, else the table's, is another than the one that is read.
-fn takes_collation(defaults: Defaults, attributes: &[Attribute]) -> bool
-    ensures { result ≡ takes_collation defaults attributes.now }
+fn takes_another_collation(defaults: Defaults, attributes: &[Attribute]) -> bool
+    ensures { result ≡ takes_another_collation defaults attributes.now }
 {
     let mut own = None;
     for attribute in attributes {
@@ -186,8 +185,8 @@ fn takes_collation(defaults: Defaults, attributes: &[Attribute]) -> bool
 }
 
 /// The same of its character set.
-fn takes_character_set(defaults: Defaults, attributes: &[Attribute]) -> bool
-    ensures { result ≡ takes_character_set defaults attributes.now }
+fn takes_another_character_set(defaults: Defaults, attributes: &[Attribute]) -> bool
+    ensures { result ≡ takes_another_character_set defaults attributes.now }
 {
     let mut own = None;
     for attribute in attributes {
@@ -196,9 +195,9 @@ fn takes_character_set(defaults: Defaults, attributes: &[Attribute]) -> bool
     is_another(own.or(defaults.character_set))
 }
 
-#[tactic(auto, unfolding(crate::specs::Profile::text_place))]
-fn text_place(defaults: Defaults, column: &ColumnDefinition) -> Option<Which>
-    ensures { result ≡ text_place defaults column.now }
+#[tactic(auto, unfolding(crate::specs::Profile::text_misfit))]
+fn text_misfit(defaults: Defaults, column: &ColumnDefinition) -> Option<Which>
+    ensures { result ≡ text_misfit defaults column.now }
 {
     let attributes = column.attributes.as_slice();
     if has_unsigned(attributes) {
@@ -207,17 +206,17 @@ fn text_place(defaults: Defaults, column: &ColumnDefinition) -> Option<Which>
         Some(Which::Length)
     } else if has_zerofill(attributes) {
         Some(Which::Zerofill)
-    } else if takes_collation(defaults, attributes) {
+    } else if takes_another_collation(defaults, attributes) {
         Some(Which::Collation)
-    } else if takes_character_set(defaults, attributes) {
+    } else if takes_another_character_set(defaults, attributes) {
         Some(Which::CharacterSet)
     } else {
         None
     }
 }
 
-fn column_place(defaults: Defaults, column: &ColumnDefinition) -> Option<Which>
-    ensures { result ≡ column_place defaults column.now }
+fn column_misfit(defaults: Defaults, column: &ColumnDefinition) -> Option<Which>
+    ensures { result ≡ column_misfit defaults column.now }
 {
     match type_word(column.kind.as_slice()) {
         TypeWord::Whole { bits: _ } => if has_zerofill(column.attributes.as_slice()) {
@@ -225,13 +224,13 @@ fn column_place(defaults: Defaults, column: &ColumnDefinition) -> Option<Which>
         } else {
             None
         },
-        TypeWord::VarChar => text_place(defaults, column),
+        TypeWord::VarChar => text_misfit(defaults, column),
         TypeWord::Other => Some(Which::ColumnType),
     }
 }
 
-fn kind_place(kind: KeyKind) -> Option<Which>
-    ensures { result ≡ kind_place kind }
+fn kind_misfit(kind: KeyKind) -> Option<Which>
+    ensures { result ≡ kind_misfit kind }
 {
     match kind {
         KeyKind::Fulltext | KeyKind::Spatial => Some(Which::KeyKind),
@@ -240,8 +239,8 @@ fn kind_place(kind: KeyKind) -> Option<Which>
 }
 
 /// What a part of a key has that is outside the profile: a prefix length, and behind it DESC.
-fn part_place(part: &KeyPart) -> Option<Which>
-    ensures { result ≡ part_place part.now }
+fn part_misfit(part: &KeyPart) -> Option<Which>
+    ensures { result ≡ part_misfit part.now }
 {
     if part.prefix.is_some() {
         Some(Which::Prefix)
@@ -252,61 +251,60 @@ fn part_place(part: &KeyPart) -> Option<Which>
     }
 }
 
-fn first_part_place(parts: &[KeyPart]) -> Option<Which>
-    ensures { result ≡ first_given part_place parts.now }
+fn first_part_misfit(parts: &[KeyPart]) -> Option<Which>
+    ensures { result ≡ first_given part_misfit parts.now }
 {
     for part in parts {
-        if let Some(which) = part_place(part) {
+        if let Some(which) = part_misfit(part) {
             return Some(which);
         }
     }
     None
 }
 
-fn method_place(word: &[u8]) -> Option<Which>
-    ensures { result ≡ method_place word.now }
+fn method_misfit(method: &Method) -> Option<Which>
+    ensures { result ≡ method_misfit method.now }
 {
-    if same_name(word, b"BTREE") {
-        None
-    } else {
-        Some(Which::KeyKind)
+    match method {
+        Method::Using(word) if !same_name(word.as_slice(), b"BTREE") => Some(Which::KeyKind),
+        _ => None,
     }
 }
 
-fn first_method_place(words: &[Bytes]) -> Option<Which>
-    ensures { result ≡ first_given method_place words.now }
+fn first_method_misfit(methods: &[Method]) -> Option<Which>
+    ensures { result ≡ first_given method_misfit methods.now }
 {
-    for word in words {
-        if let Some(which) = method_place(word.as_slice()) {
+    for method in methods {
+        if let Some(which) = method_misfit(method) {
             return Some(which);
         }
     }
     None
 }
 
-#[tactic(auto, unfolding(crate::specs::Profile::key_place))]
-fn key_place(key: &KeyDefinition) -> Option<Which>
-    ensures { result ≡ key_place key.now }
+#[tactic(auto, unfolding(crate::specs::Profile::key_misfit))]
+fn key_misfit(key: &KeyDefinition) -> Option<Which>
+    ensures { result ≡ key_misfit key.now }
 {
-    kind_place(key.kind)
-        .or(first_part_place(key.parts.as_slice()))
-        .or(first_method_place(key.methods.as_slice()))
+    kind_misfit(key.kind)
+        .or(first_part_misfit(key.parts.as_slice()))
+        .or(first_method_misfit(key.methods.as_slice()))
 }
 
-fn item_place(defaults: Defaults, item: &CreateDefinition) -> Option<Which>
-    ensures { result ≡ item_place defaults item.now }
+fn item_misfit(defaults: Defaults, item: &CreateDefinition) -> Option<Which>
+    ensures { result ≡ item_misfit defaults item.now }
 {
     match item {
-        CreateDefinition::Column(column) => column_place(defaults, column),
-        CreateDefinition::Key(key) => key_place(key),
+        CreateDefinition::Column(column) => column_misfit(defaults, column),
+        CreateDefinition::Key(key) => key_misfit(key),
     }
 }
 
-fn first_item_place(defaults: Defaults, items: &[CreateDefinition]) -> Option<Which>
-    ensures { result ≡ first_given (item_place defaults) items.now }
+fn first_item_misfit(defaults: Defaults, items: &[CreateDefinition]) -> Option<Which>
+    ensures { result ≡ first_given (item_misfit defaults) items.now }
 {
     for item in items {
-        if let Some(which) = item_place(defaults, item) {
+        if let Some(which) = item_misfit(defaults, item) {
             return Some(which);
         }
     }
@@ -315,10 +313,10 @@ fn first_item_place(defaults: Defaults, items: &[CreateDefinition]) -> Option<Wh
 
 /// The first place, in the order of the text, that is outside the profile of tables that are read. All that a column
 /// has stands at its name, and there the order is that of `Which`.
-#[tactic(auto, unfolding(crate::specs::Profile::first_place))]
-pub(crate) fn first_place(create: &CreateTable) -> Option<Which>
-    ensures { result ≡ first_place create.now }
+#[tactic(auto, unfolding(crate::specs::Profile::first_misfit))]
+pub(crate) fn first_misfit(create: &CreateTable) -> Option<Which>
+    ensures { result ≡ first_misfit create.now }
 {
     let defaults = defaults_of(create.options.as_slice());
-    first_item_place(defaults, create.definitions.as_slice())
+    first_item_misfit(defaults, create.definitions.as_slice())
 }

@@ -1,8 +1,7 @@
-ghost use Rattle.std.specs.Prelude.{IfOk, All};
-ghost use Rattle.rx_value.specs.Shape.{IsSized, IsSchema};
+ghost use Rattle.std.specs.Prelude.{IfOk};
 ghost use Rattle.rx_schema.specs.Outcomes.{Answers};
 ghost use Rattle.rx_schema.specs.Schema.{read_of};
-ghost use Rattle.rx_schema.specs.Tables.{IsGiven};
+ghost use Rattle.rx_schema.specs.Tables.{IsDeclarable};
 
 use crate::declaring::schema_of;
 use crate::faults::SchemaFault;
@@ -44,12 +43,10 @@ fn read_statement(alloc: Global, text: &[u8]) -> Result<Schema, SchemaFault>
 ///   first that an earlier one equals. A second primary key, and any other key that is named so, is `PRIMARY`.
 /// - `UnknownColumn`: the first column of a key that is no column of the table.
 /// - `NoMemory`: there was no memory for the schema.
-#[tactic(auto, using(crate::proofs::Giving::answer_given, crate::proofs::Giving::answer_fits, crate::proofs::Giving::answer_sized))]
+#[tactic(auto, using(crate::proofs::Giving::answer_given))]
 pub fn read_schema(alloc: Global, text: &[u8]) -> Result<Schema, SchemaFault>
     ensures exact { Answers (read_of text.now) result }
-    ensures given { IfOk result IsGiven }
-    ensures fits { IfOk result IsSchema }
-    ensures sized { IfOk result (λ s. All (λ c. IsSized c.kind) s.columns) }
+    ensures declarable { IfOk result IsDeclarable }
 {
     read_statement(alloc, text)
 }

@@ -1,12 +1,11 @@
 ghost use Rattle.std.specs.Prelude.{◌≡◌};
-ghost use Rattle.std.specs.Str.{str_eq_ignore_ascii_case};
 ghost use Rattle.rx_schema.specs.Profile.{type_word, characters};
 
-use crate::names::same_name;
 use rx_ddl::Argument;
+use rx_value::same_name;
 
 /// The type that the word of a column names.
-#[derive(Clone, Copy, Debug, PartialEq, Eq)]
+#[derive(Clone, Copy)]
 pub(crate) enum TypeWord {
     Whole { bits: u32 },
     VarChar,

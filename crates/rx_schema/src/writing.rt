@@ -2,15 +2,15 @@ ghost use Rattle.std.specs.Prelude.{◌≡◌, ◌++◌, ◌∷◌, [], ℕ, Lis
 ghost use Rattle.rx_value.specs.declared.shapes.Schema.{Schema as schema};
 ghost use Rattle.rx_ddl.specs.declared.statements.CreateDefinition.TheVariants as of;
 ghost use Rattle.rx_schema.specs.Schema.{read_of};
-ghost use Rattle.rx_schema.specs.Tables.{IsGiven};
+ghost use Rattle.rx_schema.specs.Tables.{IsDeclarable};
 ghost use Rattle.rx_schema.specs.Writing.{size_word, kind_word, kind_arguments, sign_marks, null_marks, column_definition, name_of, part_definition, key_kind, key_definition, definitions_of, statement_of, text_of};
 
 use rx_ddl::{
     Argument, ArgumentList, Attribute, AttributeList, ColumnDefinition, CreateDefinition,
-    CreateTable, DefinitionList, KeyDefinition, KeyKind, KeyPart, KeyPartList, OptionList,
-    write_create,
+    CreateTable, DefinitionList, KeyDefinition, KeyKind, KeyPart, KeyPartList, MethodList,
+    OptionList, write_create,
 };
-use rx_value::{Bytes, ColType, Column, Index, NameList, Part, Schema};
+use rx_value::{Bytes, ColType, Column, Index, Part, Schema};
 use std::alloc::{AllocError, Global};
 
 /// The word of an integer type by its bits.
@@ -135,7 +135,7 @@ fn key_definition(
         kind: key_kind(index.primary, index.unique),
         name: Bytes::of(alloc, index.name.as_slice())?,
         parts: part_definitions(alloc, columns, index.parts.as_slice())?,
-        methods: NameList::new(alloc),
+        methods: MethodList::new(alloc),
     })
 }
 
@@ -200,5 +200,5 @@ pub fn write_schema(alloc: Global, schema: &Schema) -> Result<Bytes, AllocError>
 #[tactic(auto, using(crate::proofs::Restoring::law, crate::proofs::Restoring::read_again))]
 pub fn reads_what_is_written()
     ensures again { (text : List ℕ) (s : schema) → read_of text ≡ Ok s → read_of (text_of s) ≡ Ok s }
-    ensures given { (s : schema) → IsGiven s → read_of (text_of s) ≡ Ok s }
+    ensures given { (s : schema) → IsDeclarable s → read_of (text_of s) ≡ Ok s }
 {}

@@ -1,8 +1,0 @@
-use Rattle.std.proofs.Common.{◌≡◌, drop}
-use Rattle.rx_schema.specs.Given.{first_given}
-use Rattle.rx_schema.specs.Profile.{part_place}
-use Rattle.rx_schema.proofs.profile.first_part_place.Given as goal
-
--- no part so far has any
-abbrev pub invariant-loop-part : goal.invariant-loop-part
-invariant-loop-part l = first_given part_place (drop l.part-index l.parts) ≡ first_given part_place l.parts
