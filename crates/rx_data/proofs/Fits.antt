@@ -13,6 +13,7 @@ use Rattle.rx_value.specs.declared.values.Value.TheVariants.{Null, Int, Text}
 use Rattle.rx_value.specs.declared.shapes.ColType.{ColType}
 use Rattle.rx_value.specs.declared.shapes.ColType.TheVariants.{Whole, VarChar}
 use Rattle.rx_value.specs.declared.shapes.Column.{Column}
+use Rattle.rx_value.specs.Limits.{most_rows}
 use Rattle.rx_value.specs.Shape.{FitsType, FitsColumn, FitsColumns}
 use Rattle.rx_data.specs.declared.faults.DataFault.TheVariants.{FieldCount, TooManyRows, NullNotAllowed, HeaderMismatch}
 use Rattle.rx_data.specs.Outcomes.{Outcome, before, all_of}
@@ -145,10 +146,10 @@ row_fits columns row fields values e = count_fits columns row fields values _ re
 
 record Bounded (columns : List Column) (row : ℕ) (values : List Value) : Type 0 where
   fits : FitsColumns columns values
-  early : row ≤ 1000000
+  early : row ≤ most_rows
 
-bounded_step : (columns : List Column) (row : ℕ) (fields : List (List ℕ)) (values : List Value) (t : Bool) → leb row 1000000 ≡ t → cond t (row_outcome columns row fields) (Err TooManyRows) ≡ Ok values → Bounded columns row values
-bounded_step columns row fields values true le e = record { fits = row_fits columns row fields values e; early = leb-true row 1000000 le }
+bounded_step : (columns : List Column) (row : ℕ) (fields : List (List ℕ)) (values : List Value) (t : Bool) → leb row most_rows ≡ t → cond t (row_outcome columns row fields) (Err TooManyRows) ≡ Ok values → Bounded columns row values
+bounded_step columns row fields values true le e = record { fits = row_fits columns row fields values e; early = leb-true row most_rows le }
 bounded_step columns row fields values false le e = absurd cc
 
 bounded_fits : (columns : List Column) (row : ℕ) (fields : List (List ℕ)) (values : List Value) → bounded_outcome columns row fields ≡ Ok values → Bounded columns row values
@@ -157,20 +158,20 @@ bounded_fits columns row fields values e = bounded_step columns row fields value
 -- rows from a number on that fit, none of them after the millionth
 record From (columns : List Column) (row : ℕ) (rows : List (List Value)) : Type 0 where
   each : All (FitsColumns columns) rows
-  few : row + length rows ≤ 1000001
+  few : row + length rows ≤ (suc most_rows)
 
-rows_step : (columns : List Column) (row : ℕ) (o : Outcome (List Value)) (p : Outcome (List (List Value))) → ((values : List Value) → o ≡ Ok values → Bounded columns row values) → ((rows : List (List Value)) → suc row ≤ 1000001 → p ≡ Ok rows → From columns (suc row) rows) → (rows : List (List Value)) → before o p ≡ Ok rows → From columns row rows
+rows_step : (columns : List Column) (row : ℕ) (o : Outcome (List Value)) (p : Outcome (List (List Value))) → ((values : List Value) → o ≡ Ok values → Bounded columns row values) → ((rows : List (List Value)) → suc row ≤ (suc most_rows) → p ≡ Ok rows → From columns (suc row) rows) → (rows : List (List Value)) → before o p ≡ Ok rows → From columns row rows
 rows_step columns row (Err fault) p one more rows e = absurd cc
 rows_step columns row (Ok values) (Err fault) one more rows e = absurd cc
 rows_step columns row (Ok values) (Ok others) one more rows e =
     let is : values ∷ others ≡ rows = cc in
     let first = one values refl in
-    let early : row ≤ 1000000 = first.early in
+    let early : row ≤ most_rows = first.early in
     let rest = more others (omega arith) refl in
-    let few : suc row + length others ≤ 1000001 = rest.few in
+    let few : suc row + length others ≤ (suc most_rows) = rest.few in
     subst (From columns row) is (record { each = All-cons (FitsColumns columns) values others first.fits rest.each; few = omega arith })
 
-rows_fit : (columns : List Column) (row : ℕ) (records : List (List (List ℕ))) (rows : List (List Value)) → row ≤ 1000001 → all_of (row_outcomes columns row records) ≡ Ok rows → From columns row rows
+rows_fit : (columns : List Column) (row : ℕ) (records : List (List (List ℕ))) (rows : List (List Value)) → row ≤ (suc most_rows) → all_of (row_outcomes columns row records) ≡ Ok rows → From columns row rows
 rows_fit columns row [] rows early e =
     let is : [] ≡ rows = cc in
     subst (From columns row) is (record { each = All-nil (FitsColumns columns); few = omega arith })
@@ -181,12 +182,12 @@ rows_fit columns row (fields ∷ records) rows early e =
 -- rows that fit, at most a million
 pub record Fitting (columns : List Column) (rows : List (List Value)) : Type 0 where
   pub each : All (FitsColumns columns) rows
-  pub few : length rows ≤ 1000000
+  pub few : length rows ≤ most_rows
 
 under_step : (columns : List Column) (records : List (List (List ℕ))) (rows : List (List Value)) (t : Bool) → cond t (all_of (row_outcomes columns 1 records)) (Err HeaderMismatch) ≡ Ok rows → Fitting columns rows
 under_step columns records rows true e =
     let from = rows_fit columns 1 records rows (omega arith) e in
-    let few : 1 + length rows ≤ 1000001 = from.few in
+    let few : 1 + length rows ≤ (suc most_rows) = from.few in
     record { each = from.each; few = omega arith }
 under_step columns records rows false e = absurd cc
 

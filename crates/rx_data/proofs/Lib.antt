@@ -1,5 +1,6 @@
 pub mod Fits
 pub mod Function
+pub mod Left
 pub mod Numbers
 pub mod Ranges
 pub mod Steps

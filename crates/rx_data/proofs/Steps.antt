@@ -1,17 +1,18 @@
 -- One step more of a list of outcomes.
-use Rattle.std.proofs.Common.{◌≡◌, ℕ, zero, suc, ◌+◌, ◌≤◌, ◌<◌, Bool, true, false, ◌&&◌, cond, eqb, leb, List, [], ◌∷◌, ◌++◌, length, drop, Some, None, Ok, Err, refl, sym, ap, ◌∙◌, append_assoc, add-one, arith, map, get_or}
+use Rattle.std.proofs.Common.{◌≡◌, ℕ, zero, suc, ◌+◌, ◌≤◌, ◌<◌, Bool, true, false, ◌&&◌, cond, eqb, leb, List, [], ◌∷◌, ◌++◌, length, drop, Some, None, Result, Ok, Err, refl, sym, subst, ap, ◌∙◌, append_assoc, add-one, arith, get_or}
 use Rattle.std.proofs.Math.Seq.{drop-cons}
 use Rattle.std.proofs.lemmas.Bool.{eqb-true, eqb-false, leb-true, leb-false, true_from_ne_false, false_from_ne_true}
 use Rattle.std.proofs.lemmas.List.{append-nil}
-use Rattle.csv.specs.Records.{field_at, fields_of, Row as Record}
+use Rattle.csv.specs.Records.{field_at}
 use Rattle.rx_value.specs.declared.values.Value.{Value}
 use Rattle.rx_value.specs.declared.shapes.Column.{Column}
 use Rattle.rx_data.specs.declared.faults.DataFault.{DataFault}
-use Rattle.rx_data.specs.declared.faults.DataFault.TheVariants.{FieldCount, TooManyRows}
-use Rattle.rx_data.specs.Outcomes.{Outcome, with_front, before, all_of}
+use Rattle.rx_data.specs.declared.faults.DataFault.TheVariants.{NotCsv, HeaderMismatch, FieldCount, BadValue, NullNotAllowed, TooManyRows, NoMemory}
+use Rattle.rx_data.specs.Outcomes.{Outcome, Answers, with_front, before, all_of}
 use Rattle.rx_data.specs.Fields.{field_value}
 use Rattle.rx_data.specs.Rows.{is_header, field_outcomes, row_outcome, bounded_outcome, row_outcomes}
-use Rattle.std.specs.Str.{str_eq_ignore_ascii_case}
+use Rattle.rx_value.specs.Names.{same_name}
+use Rattle.rx_value.specs.Limits.{most_rows}
 
 fronts : {A : Type 0} (front : List A) (x : A) (others : Outcome (List A)) → with_front (front ++ x ∷ []) others ≡ with_front front (with_front (x ∷ []) others)
 fronts {A} front x (Ok others) = ap (λ (xs : List A). let r : Outcome (List A) = Ok xs in r) (append_assoc front (x ∷ []) others)
@@ -75,16 +76,16 @@ field_at_place : (fields : List (List ℕ)) (i : ℕ) (field : List ℕ) → Som
 field_at_place fields i field e = field_here fields i field e ∙ ap (λ (j : ℕ). field ∷ drop j fields) (sym (add-one i))
 
 -- what is left of a header
-left_header : (columns : List Column) (fields : List (List ℕ)) (i : ℕ) (column : Column) (field : List ℕ) → i < length columns → column ≡ get_or columns i column → Some field ≡ field_at fields i → is_header (drop i columns) (drop i fields) ≡ str_eq_ignore_ascii_case field column.name && is_header (drop (i + 1) columns) (drop (i + 1) fields)
+left_header : (columns : List Column) (fields : List (List ℕ)) (i : ℕ) (column : Column) (field : List ℕ) → i < length columns → column ≡ get_or columns i column → Some field ≡ field_at fields i → is_header (drop i columns) (drop i fields) ≡ same_name field column.name && is_header (drop (i + 1) columns) (drop (i + 1) fields)
 left_header columns fields i column field within is f =
     ap (λ (xs : List Column). is_header xs (drop i fields)) (step_at columns i column within is)
     ∙ ap (is_header (column ∷ drop (i + 1) columns)) (field_at_place fields i field f)
 
-pub name_more : (columns : List Column) (fields : List (List ℕ)) (i : ℕ) (column : Column) (field : List ℕ) → i < length columns → column ≡ get_or columns i column → Some field ≡ field_at fields i → str_eq_ignore_ascii_case field column.name ≡ true → is_header (drop (i + 1) columns) (drop (i + 1) fields) ≡ is_header (drop i columns) (drop i fields)
+pub name_more : (columns : List Column) (fields : List (List ℕ)) (i : ℕ) (column : Column) (field : List ℕ) → i < length columns → column ≡ get_or columns i column → Some field ≡ field_at fields i → same_name field column.name ≡ true → is_header (drop (i + 1) columns) (drop (i + 1) fields) ≡ is_header (drop i columns) (drop i fields)
 name_more columns fields i column field within is f same =
     ap (λ (t : Bool). t && is_header (drop (i + 1) columns) (drop (i + 1) fields)) (sym same) ∙ sym (left_header columns fields i column field within is f)
 
-pub name_differs : (columns : List Column) (fields : List (List ℕ)) (i : ℕ) (column : Column) (field : List ℕ) → i < length columns → column ≡ get_or columns i column → Some field ≡ field_at fields i → str_eq_ignore_ascii_case field column.name ≡ false → false ≡ is_header (drop i columns) (drop i fields)
+pub name_differs : (columns : List Column) (fields : List (List ℕ)) (i : ℕ) (column : Column) (field : List ℕ) → i < length columns → column ≡ get_or columns i column → Some field ≡ field_at fields i → same_name field column.name ≡ false → false ≡ is_header (drop i columns) (drop i fields)
 name_differs columns fields i column field within is f other =
     ap (λ (t : Bool). t && is_header (drop (i + 1) columns) (drop (i + 1) fields)) (sym other) ∙ sym (left_header columns fields i column field within is f)
 
@@ -135,39 +136,50 @@ pub fields_end : (columns : List Column) (row : ℕ) (fields : List (List ℕ)) 
 fields_end columns row fields i values all end e =
     none_left row i (drop i columns) (drop i fields) values all (drop-end columns i end) e
 
+-- a refusal of a part is that of the whole
+pub refused_by : {A B : Type 0} (part : Outcome A) (all : Outcome B) (fault : DataFault) → Answers part (Err fault) → (part ≡ Err fault → all ≡ Err fault) → Answers all (Err fault)
+refused_by part all (NotCsv quotes) e h = h e
+refused_by part all HeaderMismatch e h = h e
+refused_by part all (FieldCount row) e h = h e
+refused_by part all (BadValue row column) e h = h e
+refused_by part all (NullNotAllowed row column) e h = h e
+refused_by part all TooManyRows e h = h e
+refused_by part all NoMemory e h = tt
+
+-- want of memory answers each outcome
+pub no_memory : {A : Type 0} (all : Outcome A) (fault : DataFault) → fault ≡ NoMemory → Answers all (Err fault)
+no_memory all fault e = subst (λ (f : DataFault). Answers all (Err f)) (sym e) tt
+
+-- a result answers an outcome that is the same
+pub same_outcome : {A : Type 0} (said all : Outcome A) (result : Result A DataFault) → said ≡ all → Answers said result → Answers all result
+same_outcome {A} said all result e h = subst (λ (o : Outcome A). Answers o result) e h
+
 -- the rows
 
-bounded : (columns : List Column) (row : ℕ) (fields : List (List ℕ)) (t : Bool) → leb row 1000000 ≡ t → bounded_outcome columns row fields ≡ cond t (row_outcome columns row fields) (Err TooManyRows)
+bounded : (columns : List Column) (row : ℕ) (fields : List (List ℕ)) (t : Bool) → leb row most_rows ≡ t → bounded_outcome columns row fields ≡ cond t (row_outcome columns row fields) (Err TooManyRows)
 bounded columns row fields t e = ap (λ (u : Bool). cond u (row_outcome columns row fields) (Err TooManyRows)) e
 
--- what the records from a place on give, behind rows
-abbrev pub RowsGive : List Column → List Record → ℕ → List (List Value) → Outcome (List (List Value)) → Type 0
-RowsGive columns records i rows all = with_front rows (all_of (row_outcomes columns (i + 1) (map fields_of (drop i records)))) ≡ all
+-- what the records that are left give, behind some rows
+abbrev pub RowsGive : List Column → ℕ → List (List Value) → List (List (List ℕ)) → Outcome (List (List Value)) → Type 0
+RowsGive columns i rows left all = with_front rows (all_of (row_outcomes columns (i + 1) left)) ≡ all
 
-record_outcome : (columns : List Column) (records : List Record) (i : ℕ) (fields : Record) → i < length records → fields ≡ get_or records i fields → row_outcomes columns (i + 1) (map fields_of (drop i records)) ≡ bounded_outcome columns (i + 1) (fields_of fields) ∷ row_outcomes columns (i + 1 + 1) (map fields_of (drop (i + 1) records))
-record_outcome columns records i fields within is =
-    ap (λ (xs : List Record). row_outcomes columns (i + 1) (map fields_of xs)) (step_at records i fields within is)
-    ∙ ap (λ (j : ℕ). bounded_outcome columns (i + 1) (fields_of fields) ∷ row_outcomes columns j (map fields_of (drop (i + 1) records))) (sym (add-one (i + 1)))
+at_row : (columns : List Column) (i : ℕ) (rows : List (List Value)) (fields : List (List ℕ)) (left after : List (List (List ℕ))) (all : Outcome (List (List Value))) → left ≡ fields ∷ after → RowsGive columns i rows left all → with_front rows (before (bounded_outcome columns (i + 1) fields) (all_of (row_outcomes columns (i + 1 + 1) after))) ≡ all
+at_row columns i rows fields left after all is e =
+    ap (λ (j : ℕ). with_front rows (before (bounded_outcome columns (i + 1) fields) (all_of (row_outcomes columns j after)))) (add-one (i + 1))
+    ∙ ap (λ (rs : List (List (List ℕ))). with_front rows (all_of (row_outcomes columns (i + 1) rs))) (sym is) ∙ e
 
-at_row : (columns : List Column) (records : List Record) (i : ℕ) (fields : Record) (rows : List (List Value)) (all : Outcome (List (List Value))) → i < length records → fields ≡ get_or records i fields → RowsGive columns records i rows all → with_front rows (before (bounded_outcome columns (i + 1) (fields_of fields)) (all_of (row_outcomes columns (i + 1 + 1) (map fields_of (drop (i + 1) records))))) ≡ all
-at_row columns records i fields rows all within is e =
-    ap (λ (xs : List (Outcome (List Value))). with_front rows (all_of xs)) (sym (record_outcome columns records i fields within is)) ∙ e
+pub row_more : (columns : List Column) (i : ℕ) (rows : List (List Value)) (fields : List (List ℕ)) (left after : List (List (List ℕ))) (values : List Value) (all : Outcome (List (List Value))) → left ≡ fields ∷ after → i < most_rows → row_outcome columns (i + 1) fields ≡ Ok values → RowsGive columns i rows left all → RowsGive columns (i + 1) (rows ++ values ∷ []) after all
+row_more columns i rows fields left after values all is few gives e =
+    goes_on rows values (bounded_outcome columns (i + 1) fields) _ all (sym (bounded columns (i + 1) fields true (le-leb (omega (arith, few))) ∙ gives)) (at_row columns i rows fields left after all is e)
 
-pub row_more : (columns : List Column) (records : List Record) (i : ℕ) (fields : Record) (rows : List (List Value)) (values : List Value) (all : Outcome (List (List Value))) → i < length records → fields ≡ get_or records i fields → i + 1 ≤ 1000000 → Ok values ≡ row_outcome columns (i + 1) (fields_of fields) → RowsGive columns records i rows all → RowsGive columns records (i + 1) (rows ++ values ∷ []) all
-row_more columns records i fields rows values all within is few gives e =
-    goes_on rows values (bounded_outcome columns (i + 1) (fields_of fields)) _ all (gives ∙ sym (bounded columns (i + 1) (fields_of fields) true (le-leb few))) (at_row columns records i fields rows all within is e)
+pub row_fault : (columns : List Column) (i : ℕ) (rows : List (List Value)) (fields : List (List ℕ)) (left after : List (List (List ℕ))) (fault : DataFault) (all : Outcome (List (List Value))) → left ≡ fields ∷ after → i < most_rows → row_outcome columns (i + 1) fields ≡ Err fault → RowsGive columns i rows left all → all ≡ Err fault
+row_fault columns i rows fields left after fault all is few gives e =
+    sym (stops rows fault (bounded_outcome columns (i + 1) fields) _ all (sym (bounded columns (i + 1) fields true (le-leb (omega (arith, few))) ∙ gives)) (at_row columns i rows fields left after all is e))
 
-pub row_fault : (columns : List Column) (records : List Record) (i : ℕ) (fields : Record) (rows : List (List Value)) (fault : DataFault) (all : Outcome (List (List Value))) → i < length records → fields ≡ get_or records i fields → i + 1 ≤ 1000000 → Err fault ≡ row_outcome columns (i + 1) (fields_of fields) → RowsGive columns records i rows all → Err fault ≡ all
-row_fault columns records i fields rows fault all within is few gives e =
-    stops rows fault (bounded_outcome columns (i + 1) (fields_of fields)) _ all (gives ∙ sym (bounded columns (i + 1) (fields_of fields) true (le-leb few))) (at_row columns records i fields rows all within is e)
+pub too_many : (columns : List Column) (i : ℕ) (rows : List (List Value)) (fields : List (List ℕ)) (left after : List (List (List ℕ))) (all : Outcome (List (List Value))) → left ≡ fields ∷ after → most_rows ≤ i → RowsGive columns i rows left all → all ≡ Err TooManyRows
+too_many columns i rows fields left after all is many e =
+    sym (stops rows TooManyRows (bounded_outcome columns (i + 1) fields) _ all (sym (bounded columns (i + 1) fields false (gt-leb (omega (arith, many))))) (at_row columns i rows fields left after all is e))
 
-pub too_many : (columns : List Column) (records : List Record) (i : ℕ) (fields : Record) (rows : List (List Value)) (all : Outcome (List (List Value))) → i < length records → fields ≡ get_or records i fields → i ≡ 1000000 → RowsGive columns records i rows all → Err TooManyRows ≡ all
-too_many columns records i fields rows all within is last e =
-    stops rows TooManyRows (bounded_outcome columns (i + 1) (fields_of fields)) _ all (sym (bounded columns (i + 1) (fields_of fields) false (gt-leb (omega arith)))) (at_row columns records i fields rows all within is e)
-
-no_rows_left : (columns : List Column) (row : ℕ) (left : List Record) (rows : List (List Value)) (all : Outcome (List (List Value))) → left ≡ [] → with_front rows (all_of (row_outcomes columns row (map fields_of left))) ≡ all → Ok rows ≡ all
-no_rows_left columns row [] rows all none e = ended rows all e
-no_rows_left columns row (fields ∷ left) rows all none e = absurd cc
-
-pub rows_end : (columns : List Column) (records : List Record) (i : ℕ) (rows : List (List Value)) (all : Outcome (List (List Value))) → length records ≤ i → RowsGive columns records i rows all → Ok rows ≡ all
-rows_end columns records i rows all end e = no_rows_left columns (i + 1) (drop i records) rows all (drop-end records i end) e
+pub rows_end : (columns : List Column) (i : ℕ) (rows : List (List Value)) (left : List (List (List ℕ))) (all : Outcome (List (List Value))) → left ≡ [] → RowsGive columns i rows left all → all ≡ Ok rows
+rows_end columns i rows left all none e =
+    sym (ended rows all (ap (λ (rs : List (List (List ℕ))). with_front rows (all_of (row_outcomes columns (i + 1) rs))) (sym none) ∙ e))

@@ -26,7 +26,8 @@ is_numeral digits = nat_lt 0 (length digits) && all_ascii_digits digits
 
 -- the number that a numeral writes, where it is at most so large
 unfoldable pub number_within : ℕ → List ℕ → Option ℕ
-number_within limit digits = if is_numeral digits && nat_le (digits_value 10 digits) limit then Some (digits_value 10 digits) else None
+number_within limit digits =
+    if is_numeral digits && nat_le (digits_value 10 digits) limit then Some (digits_value 10 digits) else None
 
 -- a number as a value
 abbrev pub positive : Option ℕ → Option Value
@@ -41,7 +42,8 @@ negative (Some n) = Some (Int (neg_ℤ (pos n)))
 -- an integer of a type: a numeral, or `-` and a numeral
 abbrev pub integer_of : ℕ → Bool → List ℕ → Option Value
 integer_of bits signed [] = None
-integer_of bits signed (b ∷ bs) = if b == 45 then negative (number_within (least bits signed) bs) else positive (number_within (most bits signed) (b ∷ bs))
+integer_of bits signed (b ∷ bs) =
+    if b == 45 then negative (number_within (least bits signed) bs) else positive (number_within (most bits signed) (b ∷ bs))
 
 -- UTF-8 of at most so many characters
 abbrev pub fits_text : ℕ → List ℕ → Bool
@@ -68,4 +70,5 @@ some_value row number None = Err (BadValue row number)
 
 -- what a field of a row gives a column
 abbrev pub field_value : ℕ → ℕ → Column → List ℕ → Outcome Value
-field_value row number column field = if is_null_mark field then null_value row number column else some_value row number (value_of column.kind field)
+field_value row number column field =
+    if is_null_mark field then null_value row number column else some_value row number (value_of column.kind field)

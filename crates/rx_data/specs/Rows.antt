@@ -1,6 +1,7 @@
 -- The rows of a table as a text of records.
 use Rattle.std.specs.Prelude.{ℕ, suc, ◌%◌, Bool, true, false, ◌&&◌, List, [], ◌∷◌, length, count_by, Err, nat_le, ◌==◌, if◌then◌else◌}
-use Rattle.std.specs.Str.{str_eq_ignore_ascii_case}
+use Rattle.rx_value.specs.Limits.{most_rows}
+use Rattle.rx_value.specs.Names.{same_name}
 use Rattle.rx_value.specs.declared.values.Value.{Value}
 use Rattle.rx_value.specs.declared.shapes.Column.{Column}
 use Rattle.rx_value.specs.declared.shapes.Schema.{Schema}
@@ -12,21 +13,23 @@ use Rattle.rx_data.specs.Records.{records_of}
 -- the names of the columns in order, without case
 abbrev pub is_header : List Column → List (List ℕ) → Bool
 is_header [] [] = true
-is_header (column ∷ columns) (field ∷ fields) = str_eq_ignore_ascii_case field column.name && is_header columns fields
+is_header (column ∷ columns) (field ∷ fields) = same_name field column.name && is_header columns fields
 is_header _ _ = false
 
 -- what each field of a row gives its column, the columns numbered from a number
 abbrev pub field_outcomes : ℕ → ℕ → List Column → List (List ℕ) → List (Outcome Value)
-field_outcomes row number (column ∷ columns) (field ∷ fields) = field_value row number column field ∷ field_outcomes row (suc number) columns fields
+field_outcomes row number (column ∷ columns) (field ∷ fields) =
+    field_value row number column field ∷ field_outcomes row (suc number) columns fields
 field_outcomes row number _ _ = []
 
 -- what a row gives: one field per column, and the first refusal from the left
 unfoldable pub row_outcome : List Column → ℕ → List (List ℕ) → Outcome (List Value)
-row_outcome columns row fields = if length fields == length columns then all_of (field_outcomes row 0 columns fields) else Err (FieldCount row)
+row_outcome columns row fields =
+    if length fields == length columns then all_of (field_outcomes row 0 columns fields) else Err (FieldCount row)
 
--- a row within the first million
+-- a row within those that a table holds
 abbrev pub bounded_outcome : List Column → ℕ → List (List ℕ) → Outcome (List Value)
-bounded_outcome columns row fields = if nat_le row 1000000 then row_outcome columns row fields else Err TooManyRows
+bounded_outcome columns row fields = if nat_le row most_rows then row_outcome columns row fields else Err TooManyRows
 
 -- what each record gives, the rows numbered from a number
 abbrev pub row_outcomes : List Column → ℕ → List (List (List ℕ)) → List (Outcome (List Value))

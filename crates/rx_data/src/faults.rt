@@ -1,3 +1,6 @@
+ghost use Rattle.std.specs.Prelude.{◌≡◌};
+
+use std::alloc::AllocError;
 use thiserror::Error;
 
 /// Why the rows of a text were not read.
@@ -18,10 +21,20 @@ pub enum DataFault {
     /// A field of a row, from 1, is NULL, where its column, which is numbered from 0, can't be.
     #[error("null not allowed: row {row} column {column}")]
     NullNotAllowed { row: u64, column: u32 },
-    /// There are more than 1,000,000 rows.
+    /// There are more rows than a table holds.
     #[error("too many rows")]
     TooManyRows,
     /// There was no memory for the rows.
     #[error("out of memory")]
     NoMemory,
+}
+
+impl From<AllocError> for DataFault {
+    ghost use Rattle.rx_data.specs.declared.faults.DataFault.TheVariants.{NoMemory};
+
+    ghost from_gives = { λ _ fault. fault ≡ NoMemory };
+
+    fn from(_refused: AllocError) -> DataFault {
+        DataFault::NoMemory
+    }
 }

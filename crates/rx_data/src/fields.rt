@@ -1,6 +1,7 @@
-ghost use Rattle.std.specs.Prelude.{◌≡◌, ◌^◌, ◌-◌, ◌<◌, ◌≤◌, IfOk, length};
+ghost use Rattle.std.specs.Prelude.{◌≡◌, IfOk, length};
 ghost use Rattle.std.specs.Str.{chars};
-ghost use Rattle.rx_value.specs.Shape.{IsSized};
+ghost use Rattle.rx_value.specs.Shape.{IsColType, HasWidth};
+ghost use Rattle.rx_data.specs.Outcomes.{Answers};
 ghost use Rattle.rx_data.specs.Fields.{most, least, number_within, integer_of, is_null_mark, fits_text, value_of, field_value};
 
 use crate::faults::DataFault;
@@ -10,8 +11,7 @@ use std::str::from_utf8;
 
 /// The greatest number of an integer type.
 fn most(bits: u32, signed: bool) -> u64
-    requires some { 1 ≤ bits }
-    requires few { bits ≤ 64 }
+    requires { HasWidth bits }
     ensures { result ≡ most bits signed }
 {
     if signed {
@@ -23,8 +23,7 @@ fn most(bits: u32, signed: bool) -> u64
 
 /// How far an integer type goes below zero.
 fn least(bits: u32, signed: bool) -> u64
-    requires some { 1 ≤ bits }
-    requires few { bits ≤ 64 }
+    requires { HasWidth bits }
     ensures { result ≡ least bits signed }
 {
     if signed { 2u64.pow(bits - 1) } else { 0 }
@@ -57,8 +56,7 @@ fn number_within(most: u64, digits: &[u8]) -> Option<u64>
 
 /// The integer that a field writes, where a type has it.
 fn integer_of(bits: u32, signed: bool, field: &[u8]) -> Option<Value>
-    requires some { 1 ≤ bits }
-    requires few { bits ≤ 64 }
+    requires { HasWidth bits }
     ensures { result ≡ integer_of bits signed field.now }
 {
     match field {
@@ -101,21 +99,17 @@ fn is_null_mark(field: &[u8]) -> bool
     }
 }
 
-/// The value of a type that a field writes.
+/// The value of a type that a field writes, None where it writes none. The error is want of memory.
 fn value_of(alloc: Global, kind: ColType, field: &[u8]) -> Result<Option<Value>, AllocError>
-    requires { IsSized kind }
+    requires { IsColType kind }
     ensures { IfOk result (λ value. value ≡ value_of kind field.now) }
 {
     match kind {
         ColType::Whole { bits, signed } => Ok(integer_of(bits, signed, field)),
-        ColType::VarChar { chars } => {
-            if fits_text(chars, field) {
-                let text = Bytes::of(alloc, field)?;
-                Ok(Some(Value::Text(text)))
-            } else {
-                Ok(None)
-            }
-        }
+        ColType::VarChar { chars } if fits_text(chars, field) => Ok(Some(Value::Text(Bytes::of(
+            alloc, field,
+        )?))),
+        ColType::VarChar { .. } => Ok(None),
     }
 }
 
@@ -126,25 +120,25 @@ pub(crate) fn field_value(
     number: u32,
     column: &Column,
     field: &[u8],
-) -> Result<Result<Value, DataFault>, AllocError>
-    requires { IsSized column.now.kind }
-    ensures { IfOk result (λ value. value ≡ field_value row number column.now field.now) }
+) -> Result<Value, DataFault>
+    requires { IsColType column.now.kind }
+    ensures { Answers (field_value row number column.now field.now) result }
 {
     if is_null_mark(field) {
-        return Ok(if column.nullable {
+        return if column.nullable {
             Ok(Value::Null)
         } else {
             Err(DataFault::NullNotAllowed {
                 row,
                 column: number,
             })
-        });
+        };
     }
     match value_of(alloc, column.kind, field)? {
-        Some(value) => Ok(Ok(value)),
-        None => Ok(Err(DataFault::BadValue {
+        Some(value) => Ok(value),
+        None => Err(DataFault::BadValue {
             row,
             column: number,
-        })),
+        }),
     }
 }

@@ -1,23 +1,34 @@
-ghost use Rattle.std.specs.Prelude.{◌≡◌, IfOk, map};
+ghost use Rattle.std.specs.Prelude.{◌≡◌, IfOk, IfErr, OnOk};
 ghost use Rattle.csv.specs.Records.{fields_of};
-ghost use Rattle.rx_data.specs.Records.{records_of};
+ghost use Rattle.rx_data.specs.Records.{records_of, records_left, IsPlain, Takes};
 
-use csv::{ByteRecord, Error, ReaderBuilder};
+use crate::faults::DataFault;
+use csv::{ByteRecord, Reader, ReaderBuilder};
 use std::alloc::Global;
 
-/// The records of a text, with no header row and of any lengths. The error is want of memory.
-pub(crate) fn read_records(alloc: Global, text: &[u8]) -> Result<Vec<ByteRecord>, Error>
-    ensures { IfOk result (λ v. map fields_of v.items ≡ records_of text.now) }
+/// A reader of the records of a text, with no header row and of any lengths.
+pub(crate) fn reader_of<'a>(alloc: Global, text: &'a [u8]) -> Reader<&'a [u8]>
+    ensures plain { IsPlain result }
+    ensures left { records_left result ≡ records_of text.now }
 {
-    let reader = ReaderBuilder::new()
+    ReaderBuilder::new()
         .has_headers(false)
         .flexible(true)
-        .from_reader(alloc, text);
-    let mut rows = Vec::new(alloc);
-    for row in reader.into_byte_records() {
-        if rows.push(row?).is_err() {
-            return Err(Error::out_of_memory());
-        }
-    }
-    Ok(rows)
+        .from_reader(alloc, text)
+}
+
+/// Takes the next record, and tells whether there was one. The error is want of memory.
+pub(crate) fn take_record(
+    reader: &mut Reader<&[u8]>,
+    fields: &mut ByteRecord,
+) -> Result<bool, DataFault>
+    requires { IsPlain reader.old }
+    ensures plain { OnOk result (IsPlain reader.new) }
+    ensures takes { IfOk result (λ found. Takes found (fields_of fields.new) (records_left reader.old) (records_left reader.new)) }
+    ensures memory { IfErr result (λ fault. fault ≡ DataFault.NoMemory) }
+{
+    let Ok(found) = reader.read_byte_record(fields) else {
+        return Err(DataFault::NoMemory);
+    };
+    Ok(found)
 }

@@ -8,12 +8,12 @@ returns-then-len-columns c = other_length _ _ (λ e. c.if-len-columns.true (c.le
 pub returns-in_default : goal.returns-in_default
 returns-in_default c = let h = no_field _ _ c.in_default.ensures.value in absurd (omega arith)
 
-pub returns-then-not-same_word : goal.returns-then-not-same_word
-returns-then-not-same_word c =
-    name_differs _ _ _ c.index-columns-i.result _ (omega arith) c.index-columns-i.is c.in-Some.ensures.value (sym (rw c.as_slice.ensures at c.if-not-same_word.ensures))
+pub returns-then-not-same_name : goal.returns-then-not-same_name
+returns-then-not-same_name c =
+    name_differs _ _ _ c.index-columns-i.result _ (omega arith) c.index-columns-i.is c.in-Some.ensures.value (sym (rw c.as_slice.ensures at c.if-not-same_name.ensures))
     ∙ c.loop-i.invariant
 
 pub loop-i-preserved : goal.loop-i-preserved
 loop-i-preserved c =
-    name_more _ _ _ c.index-columns-i.result _ (omega arith) c.index-columns-i.is c.in-Some.ensures.value (sym (rw c.as_slice.ensures at c.if-not-same_word.ensures))
+    name_more _ _ _ c.index-columns-i.result _ (omega arith) c.index-columns-i.is c.in-Some.ensures.value (sym (rw c.as_slice.ensures at c.if-not-same_name.ensures))
     ∙ c.loop-i.invariant

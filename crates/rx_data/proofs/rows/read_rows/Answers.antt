@@ -1,27 +1,17 @@
-use Rattle.std.proofs.Common.{sym, ◌∙◌}
-use Rattle.rx_data.proofs.Whole.{odd_quotes, even_quotes, rows_given, fault_given, fit_given, few_given}
+use Rattle.std.proofs.Common.{sym}
+use Rattle.rx_data.proofs.Steps.{same_outcome}
+use Rattle.rx_data.proofs.Whole.{odd_quotes, even_quotes, fit_given, few_given}
 use Rattle.rx_data.proofs.rows.read_rows.Goals as goal
 
-pub returns-then-quotes-eq1-clause-refused : goal.returns-then-quotes-eq1-clause-refused
-returns-then-quotes-eq1-clause-refused c =
-    λ _. rw c.quotes_in-quotes.ensures (odd_quotes _ _ (rw c.quotes_in-quotes.ensures at c.if-quotes-eq1.true))
+pub returns-then-quotes-eq1-clause-exact : goal.returns-then-quotes-eq1-clause-exact
+returns-then-quotes-eq1-clause-exact c = rw c.quotes_in-quotes.ensures (odd_quotes _ _ (rw c.quotes_in-quotes.ensures at c.if-quotes-eq1.true))
 
-pub returns-in-Ok-rows_under-clause-exact : goal.returns-in-Ok-rows_under-clause-exact
-returns-in-Ok-rows_under-clause-exact c =
-    let given = rw (c.as_slice.ensures, c.as_slice-2.ensures.value, c.in-Ok.ensures) at c.in-Ok-rows_under.ensures in
-    rows_given _ _ (given ∙ sym (even_quotes _ _ (rw c.quotes_in-quotes.ensures at c.if-quotes-eq1.false)))
+pub returns-clause-exact : goal.returns-clause-exact
+returns-clause-exact c =
+    same_outcome _ _ _ (sym (even_quotes _ _ (rw c.quotes_in-quotes.ensures at c.if-quotes-eq1.false))) (rw c.as_slice.ensures at c.rows_under.ensures)
 
-pub returns-in-Ok-rows_under-clause-refused : goal.returns-in-Ok-rows_under-clause-refused
-returns-in-Ok-rows_under-clause-refused c =
-    let given = rw (c.as_slice.ensures, c.as_slice-2.ensures.value, c.in-Ok.ensures) at c.in-Ok-rows_under.ensures in
-    fault_given _ _ (given ∙ sym (even_quotes _ _ (rw c.quotes_in-quotes.ensures at c.if-quotes-eq1.false)))
+pub returns-clause-fits : goal.returns-clause-fits
+returns-clause-fits c = fit_given c.args.schema.now _ _ (rw c.as_slice.ensures at c.rows_under.ensures)
 
-pub returns-in-Ok-rows_under-clause-fits : goal.returns-in-Ok-rows_under-clause-fits
-returns-in-Ok-rows_under-clause-fits c =
-    let given = rw (c.as_slice.ensures, c.as_slice-2.ensures.value, c.in-Ok.ensures) at c.in-Ok-rows_under.ensures in
-    fit_given c.args.schema.now _ _ given
-
-pub returns-in-Ok-rows_under-clause-few : goal.returns-in-Ok-rows_under-clause-few
-returns-in-Ok-rows_under-clause-few c =
-    let given = rw (c.as_slice.ensures, c.as_slice-2.ensures.value, c.in-Ok.ensures) at c.in-Ok-rows_under.ensures in
-    few_given c.args.schema.now _ _ given
+pub returns-clause-few : goal.returns-clause-few
+returns-clause-few c = few_given c.args.schema.now _ _ (rw c.as_slice.ensures at c.rows_under.ensures)
