@@ -1,7 +1,7 @@
 -- A script of one SELECT statement with tests on integer columns, which the setting of the trace may precede.
 use Rattle.std.specs.Prelude.{ℕ, ◌^◌, ℤ, pos, neg_ℤ, Bool, true, false, List, [], ◌∷◌, length, codes, Option, Some, None, nat_lt, ◌==◌, if◌then◌else◌, position}
 use Rattle.std.specs.List.{range_with_len, slice_get}
-use Rattle.std.specs.Str.{str_eq_ignore_ascii_case}
+use Rattle.rx_value.specs.Names.{same_name}
 use Rattle.rx_value.specs.declared.values.Value.TheVariants.{Int}
 use Rattle.rx_value.specs.declared.shapes.ColType.{ColType}
 use Rattle.rx_value.specs.declared.shapes.ColType.TheVariants.{Whole, VarChar}
@@ -19,16 +19,16 @@ use Rattle.rx_cond.specs.declared.conds.Operand.TheVariants.{Column, Constant}
 use Rattle.rx_cond.specs.Tree.{Tree, truth, compare, conj, trees, none}
 use Rattle.rx_reading.specs.Reading.{Reader, ◌>>=◌, after_word, after_sign, is_end, items_at, of_whole}
 use Rattle.rx_forms.specs.Fronts.{after_text, plain_name_at}
-use Rattle.rx_forms.specs.declared.statements.Setting.TheVariants.{Trace}
-use Rattle.rx_forms.specs.Step.{Asked, Request, query, change, Step}
+use Rattle.rx_query.specs.declared.statements.Setting.TheVariants.{Trace}
+use Rattle.rx_query.specs.Steps.{Question, Request, select, change, Step}
 
 -- the number of the first column of a name, without case
-abbrev pub number_of : List TheColumn → List ℕ → Option ℕ
-number_of columns name = position (λ c. str_eq_ignore_ascii_case name c.name) columns
+abbrev pub number_named : List TheColumn → List ℕ → Option ℕ
+number_named columns name = position (λ c. same_name name c.name) columns
 
 -- the number of a column that stands by its name
 abbrev pub column_at : List TheColumn → Reader ℕ
-column_at columns ts = plain_name_at ts >>= λ name. number_of columns name.0 >>= λ number. Some (number, name.1)
+column_at columns ts = plain_name_at ts >>= λ name. number_named columns name.0 >>= λ number. Some (number, name.1)
 
 -- an integer type
 abbrev pub is_whole : ColType → Bool
@@ -125,27 +125,26 @@ cond_of columns ts None = Some (truth T, ts)
 abbrev pub cond_at : List TheColumn → Reader Tree
 cond_at columns ts = cond_of columns ts (after_word (codes "WHERE") ts)
 
--- what a query asks for
-abbrev pub asked : List ℕ → Tree → Asked
-asked columns cond = record { columns = columns; cond = cond }
+-- these columns of the rows at which a condition is true
+abbrev pub question : List ℕ → Tree → Question
+question columns cond = record { columns = columns; cond = cond }
 
--- the condition behind the table's name
-abbrev pub rows_of : Schema → List ℕ → List ℕ → List Token → Option (Asked × List Token)
-rows_of schema columns table ts =
-    if str_eq_ignore_ascii_case table schema.table then (cond_at schema.columns ts >>= λ cond. Some (asked columns cond.0, cond.1)) else None
+-- the condition behind the name of the table in hand
+abbrev pub rows_of : Schema → Reader Tree
+rows_of schema ts = plain_name_at ts >>= λ table. if same_name table.0 schema.table then cond_at schema.columns table.1 else None
 
 -- SELECT (* | name {, name}) FROM name [WHERE test {AND test}]
-abbrev pub query_at : Schema → Reader Asked
+abbrev pub query_at : Schema → Reader Question
 query_at schema ts =
-    after_word (codes "SELECT") ts >>= λ select. columns_at schema.columns select >>= λ columns.
-    after_word (codes "FROM") columns.1 >>= λ from. plain_name_at from >>= λ table. rows_of schema columns.0 table.0 table.1
+    after_word (codes "SELECT") ts >>= λ behind. columns_at schema.columns behind >>= λ columns.
+    after_word (codes "FROM") columns.1 >>= λ from. rows_of schema from >>= λ cond. Some (question columns.0 cond.0, cond.1)
 
 -- a request with its number
 abbrev pub step : ℕ → Request → Step
 step number request = record { number = number; request = request }
 
 -- a query and nothing behind it but a semicolon
-abbrev pub last_at : Schema → List Token → Option Asked
+abbrev pub last_at : Schema → List Token → Option Question
 last_at schema ts = query_at schema ts >>= λ what. if is_end what.1 then Some what.0 else None
 
 -- the tokens behind SET optimizer_trace = 'enabled=on' ;
@@ -156,8 +155,8 @@ after_trace ts =
 
 -- the setting and the query, or the query alone
 abbrev pub steps_of : Schema → List Token → Option (List Token) → Option (List Step)
-steps_of schema ts (Some behind) = last_at schema behind >>= λ what. Some (step 1 (change (Trace true)) ∷ step 2 (query what) ∷ [])
-steps_of schema ts None = last_at schema ts >>= λ what. Some (step 1 (query what) ∷ [])
+steps_of schema ts (Some behind) = last_at schema behind >>= λ what. Some (step 1 (change (Trace true)) ∷ step 2 (select what) ∷ [])
+steps_of schema ts None = last_at schema ts >>= λ what. Some (step 1 (select what) ∷ [])
 
 -- the setting of the trace where it stands, and one SELECT
 abbrev pub script_at : Schema → List Token → Option (List Step)

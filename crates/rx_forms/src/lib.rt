@@ -4,9 +4,6 @@
 mod faults;
 mod fronts;
 mod scripts;
-mod statements;
-mod words;
 
 pub use faults::FormFault;
 pub use scripts::read_script_form;
-pub use statements::{Numbered, Query, Script, Setting, Statement};

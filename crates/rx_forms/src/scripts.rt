@@ -2,36 +2,35 @@ ghost use Rattle.std.specs.Prelude.{◌≡◌, ◌≤◌, ◌<◌, ◌∷◌, []
 ghost use Rattle.std.specs.Option.{option_map};
 ghost use Rattle.std.specs.Result.{IsErrOf};
 ghost use Rattle.std.specs.List.{range_with_len, slice_get};
-ghost use Rattle.std.specs.Str.{str_eq_ignore_ascii_case};
 ghost use Rattle.rx_cond.specs.Tree.{tree_of};
 ghost use Rattle.rx_token.specs.declared.signs.TheConstants.{COMMA};
-ghost use Rattle.rx_reading.specs.Reading.{after_word, after_sign, items_at};
-ghost use Rattle.rx_forms.specs.Step.{asked_of, step_of, SelectsWithin};
-ghost use Rattle.rx_forms.specs.Script.{number_of, column_at, is_whole, is_whole_column, whole_column_at, columns_at, op_of_sign, op_of, op_at, whole_of, whole_at, constant_at, test_at, all_of_tests, tests_at, cond_at, query_at, last_at, after_trace, script_at, script_form};
+ghost use Rattle.rx_reading.specs.Reading.{Gives, Reads, ReadsAs, after_word, after_sign, next_at, items_at};
+ghost use Rattle.rx_value.specs.Limits.{most_columns};
+ghost use Rattle.rx_query.specs.Steps.{question_of, step_of, SelectsWithin};
+ghost use Rattle.rx_forms.specs.Script.{number_named, column_at, is_whole, is_whole_column, whole_column_at, columns_at, op_of_sign, op_of, op_at, whole_of, whole_at, constant_at, test_at, all_of_tests, tests_at, cond_at, rows_of, query_at, last_at, after_trace, script_at, script_form};
 
 use crate::faults::FormFault;
 use crate::fronts::{after_text, plain_name_at};
-use crate::statements::{Numbered, Query, Script, Setting, Statement};
-use crate::words::same_word;
 use rx_cond::{Cond, Op, Operand, Tri};
-use rx_reading::{after_sign, after_word, is_end};
+use rx_query::{Numbered, Query, Script, Setting, Statement};
+use rx_reading::{Read, Reading, after_sign, after_word, is_end};
 use rx_token::{Token, TokenKind, signs, tokens};
-use rx_value::{ColType, Column, NumberList, Schema, Value};
+use rx_value::{ColType, Column, NumberList, Schema, Value, same_name};
 use std::alloc::{AllocError, Global};
 
 fn place_of(columns: &[Column], name: &[u8]) -> Option<usize>
-    ensures value { result ≡ number_of columns.now name.now }
+    ensures value { result ≡ number_named columns.now name.now }
     ensures within { IfSome result (λ n. n < length columns.now) }
 {
     columns
         .iter()
-        .position(|c| same_word(name, c.name.as_slice()))
+        .position(|c| same_name(name, c.name.as_slice()))
 }
 
 /// The number of the first column of a name.
-fn number_of(columns: &[Column], name: &[u8]) -> Option<u32>
-    requires { length columns.now ≤ 256 }
-    ensures value { result ≡ number_of columns.now name.now }
+fn number_named(columns: &[Column], name: &[u8]) -> Option<u32>
+    requires { length columns.now ≤ most_columns }
+    ensures value { result ≡ number_named columns.now name.now }
     ensures within { IfSome result (λ n. n < length columns.now) }
 {
     match place_of(columns, name) {
@@ -40,20 +39,22 @@ fn number_of(columns: &[Column], name: &[u8]) -> Option<u32>
     }
 }
 
-/// The number of a column that stands by its name, and the tokens behind it.
-fn column_at<'a>(columns: &[Column], tokens: &'a [Token]) -> Option<(u32, &'a [Token])>
-    requires { length columns.now ≤ 256 }
-    ensures value { option_map (λ x. (x.0, x.1.now)) result ≡ column_at columns.now tokens.now }
-    ensures within { IfSome result (λ x. x.0 < length columns.now) }
-    ensures shorter { IfSome result (λ x. length x.1.now < length tokens.now) }
+/// The number of a column that stands by its name.
+fn column_at<'a>(columns: &[Column], tokens: &'a [Token]) -> Option<Read<'a, u32>>
+    requires { length columns.now ≤ most_columns }
+    ensures value { Reads (column_at columns.now) tokens.now result }
+    ensures within { IfSome result (λ x. x.value < length columns.now) }
 {
-    let Some((name, rest)) = plain_name_at(tokens) else {
+    let Some(name) = plain_name_at(tokens) else {
         return None;
     };
-    let Some(number) = number_of(columns, name) else {
+    let Some(value) = number_named(columns, name.value) else {
         return None;
     };
-    Some((number, rest))
+    Some(Read {
+        value,
+        rest: name.rest,
+    })
 }
 
 fn is_whole(kind: ColType) -> bool
@@ -71,46 +72,57 @@ fn is_whole_column(columns: &[Column], number: u32) -> bool
     }
 }
 
-/// The number of an integer column that stands by its name, and the tokens behind it.
-fn whole_column_at<'a>(columns: &[Column], tokens: &'a [Token]) -> Option<(u32, &'a [Token])>
-    requires { length columns.now ≤ 256 }
-    ensures value { option_map (λ x. (x.0, x.1.now)) result ≡ whole_column_at columns.now tokens.now }
-    ensures shorter { IfSome result (λ x. length x.1.now < length tokens.now) }
+/// The number of an integer column that stands by its name.
+fn whole_column_at<'a>(columns: &[Column], tokens: &'a [Token]) -> Option<Read<'a, u32>>
+    requires { length columns.now ≤ most_columns }
+    ensures { Reads (whole_column_at columns.now) tokens.now result }
 {
-    let Some((number, rest)) = column_at(columns, tokens) else {
+    let Some(column) = column_at(columns, tokens) else {
         return None;
     };
-    if is_whole_column(columns, number) {
-        return Some((number, rest));
+    if is_whole_column(columns, column.value) {
+        return Some(column);
     }
     None
 }
 
-/// The columns with commas between their names, and the tokens behind them.
+/// A comma and a column.
+fn next_column<'a>(columns: &[Column], tokens: &'a [Token]) -> Option<Read<'a, u32>>
+    requires { length columns.now ≤ most_columns }
+    ensures value { Reads (next_at (after_sign COMMA) (column_at columns.now)) tokens.now result }
+    ensures within { IfSome result (λ x. x.value < length columns.now) }
+{
+    let Some(behind) = after_sign(tokens, signs::COMMA) else {
+        return None;
+    };
+    column_at(columns, behind)
+}
+
+/// The columns with commas between their names.
 fn named_columns<'a>(
     alloc: Global,
     columns: &[Column],
     tokens: &'a [Token],
-) -> Result<Option<(NumberList, &'a [Token])>, AllocError>
-    requires { length columns.now ≤ 256 }
-    ensures value { IfOk result (λ o. option_map (λ x. (x.0, x.1.now)) o ≡ items_at (after_sign COMMA) (column_at columns.now) tokens.now) }
-    ensures within { IfOk result (λ o. IfSome o (λ x. All (λ n. n < length columns.now) x.0)) }
+) -> Reading<'a, NumberList>
+    requires { length columns.now ≤ most_columns }
+    ensures value { IfOk result (Gives (λ x. x) (items_at (after_sign COMMA) (column_at columns.now)) tokens.now) }
+    ensures within { IfOk result (λ o. IfSome o (λ x. All (λ n. n < length columns.now) x.value)) }
 {
-    let Some((first, start)) = column_at(columns, tokens) else {
+    let Some(first) = column_at(columns, tokens) else {
         return Ok(None);
     };
     let mut numbers = NumberList::new(alloc);
-    numbers.push(first)?;
-    let mut rest = start;
+    numbers.push(first.value)?;
+    let mut rest = first.rest;
     'names: loop {
-        let Some(after) = after_sign(rest, signs::COMMA) else {
-            return Ok(Some((numbers, rest)));
+        let Some(next) = next_column(columns, rest) else {
+            return Ok(Some(Read {
+                value: numbers,
+                rest,
+            }));
         };
-        let Some((number, after)) = column_at(columns, after) else {
-            return Ok(Some((numbers, rest)));
-        };
-        numbers.push(number)?;
-        rest = after;
+        numbers.push(next.value)?;
+        rest = next.rest;
     }
 }
 
@@ -126,19 +138,15 @@ fn all_columns(alloc: Global, count: u32) -> Result<NumberList, AllocError>
     Ok(numbers)
 }
 
-/// The columns of a select list, and the tokens behind it.
-fn columns_at<'a>(
-    alloc: Global,
-    columns: &[Column],
-    tokens: &'a [Token],
-) -> Result<Option<(NumberList, &'a [Token])>, AllocError>
-    requires { length columns.now ≤ 256 }
-    ensures value { IfOk result (λ o. option_map (λ x. (x.0, x.1.now)) o ≡ columns_at columns.now tokens.now) }
-    ensures within { IfOk result (λ o. IfSome o (λ x. All (λ n. n < length columns.now) x.0)) }
+/// The columns of a select list.
+fn columns_at<'a>(alloc: Global, columns: &[Column], tokens: &'a [Token]) -> Reading<'a, NumberList>
+    requires { length columns.now ≤ most_columns }
+    ensures value { IfOk result (Gives (λ x. x) (columns_at columns.now) tokens.now) }
+    ensures within { IfOk result (λ o. IfSome o (λ x. All (λ n. n < length columns.now) x.value)) }
 {
     if let Some(rest) = after_sign(tokens, signs::STAR) {
-        let numbers = all_columns(alloc, columns.len() as u32)?;
-        return Ok(Some((numbers, rest)));
+        let value = all_columns(alloc, columns.len() as u32)?;
+        return Ok(Some(Read { value, rest }));
     }
     named_columns(alloc, columns, tokens)
 }
@@ -167,16 +175,15 @@ fn op_of(kind: TokenKind) -> Option<Op>
     }
 }
 
-/// A comparison, and the tokens behind it.
-fn op_at(tokens: &[Token]) -> Option<(Op, &[Token])>
-    ensures value { option_map (λ x. (x.0, x.1.now)) result ≡ op_at tokens.now }
-    ensures shorter { IfSome result (λ x. length x.1.now < length tokens.now) }
+/// A comparison.
+fn op_at(tokens: &[Token]) -> Option<Read<'_, Op>>
+    ensures { Reads op_at tokens.now result }
 {
     let [token, rest @ ..] = tokens else {
         return None;
     };
     match op_of(token.kind) {
-        Some(op) => Some((op, rest)),
+        Some(value) => Some(Read { value, rest }),
         None => None,
     }
 }
@@ -192,56 +199,73 @@ fn whole_of(kind: TokenKind) -> Option<u128>
     }
 }
 
-/// A number, and the tokens behind it.
-fn whole_at(tokens: &[Token]) -> Option<(i128, &[Token])>
-    ensures value { option_map (λ x. (x.0, x.1.now)) result ≡ whole_at tokens.now }
-    ensures small { IfSome result (λ x. pos 0 ≤ℤ x.0) }
-    ensures shorter { IfSome result (λ x. length x.1.now < length tokens.now) }
+/// A number.
+fn whole_at(tokens: &[Token]) -> Option<Read<'_, i128>>
+    ensures value { Reads whole_at tokens.now result }
+    ensures small { IfSome result (λ x. pos 0 ≤ℤ x.value) }
 {
     let [token, rest @ ..] = tokens else {
         return None;
     };
     match whole_of(token.kind) {
-        Some(n) => Some((n as i128, rest)),
+        Some(n) => Some(Read {
+            value: n as i128,
+            rest,
+        }),
         None => None,
     }
 }
 
-/// A number with or without a minus sign, and the tokens behind it.
-fn constant_at(tokens: &[Token]) -> Option<(i128, &[Token])>
-    ensures value { option_map (λ x. (x.0, x.1.now)) result ≡ constant_at tokens.now }
-    ensures shorter { IfSome result (λ x. length x.1.now < length tokens.now) }
+/// A number with or without a minus sign.
+fn constant_at(tokens: &[Token]) -> Option<Read<'_, i128>>
+    ensures { Reads constant_at tokens.now result }
 {
     if let Some(behind) = after_sign(tokens, signs::MINUS) {
-        let Some((n, rest)) = whole_at(behind) else {
+        let Some(number) = whole_at(behind) else {
             return None;
         };
-        return Some((-n, rest));
+        return Some(Read {
+            value: -number.value,
+            rest: number.rest,
+        });
     }
     whole_at(tokens)
 }
 
-/// A comparison of an integer column with a number, and the tokens behind it.
-fn test_at<'a>(columns: &[Column], tokens: &'a [Token]) -> Option<(Cond, &'a [Token])>
-    requires { length columns.now ≤ 256 }
-    ensures value { option_map (λ x. (tree_of x.0, x.1.now)) result ≡ test_at columns.now tokens.now }
-    ensures shorter { IfSome result (λ x. length x.1.now < length tokens.now) }
+/// A comparison of an integer column with a number.
+fn test_at<'a>(columns: &[Column], tokens: &'a [Token]) -> Option<Read<'a, Cond>>
+    requires { length columns.now ≤ most_columns }
+    ensures { ReadsAs tree_of (test_at columns.now) tokens.now result }
 {
-    let Some((column, behind)) = whole_column_at(columns, tokens) else {
+    let Some(column) = whole_column_at(columns, tokens) else {
         return None;
     };
-    let Some((op, behind)) = op_at(behind) else {
+    let Some(op) = op_at(column.rest) else {
         return None;
     };
-    let Some((n, rest)) = constant_at(behind) else {
+    let Some(number) = constant_at(op.rest) else {
         return None;
     };
-    let cond = Cond::Compare {
-        op,
-        left: Operand::Column(column),
-        right: Operand::Constant(Value::Int(n)),
+    let value = Cond::Compare {
+        op: op.value,
+        left: Operand::Column(column.value),
+        right: Operand::Constant(Value::Int(number.value)),
     };
-    Some((cond, rest))
+    Some(Read {
+        value,
+        rest: number.rest,
+    })
+}
+
+/// AND and a test.
+fn next_test<'a>(columns: &[Column], tokens: &'a [Token]) -> Option<Read<'a, Cond>>
+    requires { length columns.now ≤ most_columns }
+    ensures { ReadsAs tree_of (next_at (after_word (codes "AND")) (test_at columns.now)) tokens.now result }
+{
+    let Some(behind) = after_word(tokens, b"AND") else {
+        return None;
+    };
+    test_at(columns, behind)
 }
 
 /// All of the tests, or the only one.
@@ -254,92 +278,98 @@ fn all_of_tests(mut tests: Vec<Cond>) -> Cond
     Cond::Conj(tests)
 }
 
-/// Tests with AND between them, and the tokens behind them.
-fn tests_at<'a>(
-    alloc: Global,
-    columns: &[Column],
-    tokens: &'a [Token],
-) -> Result<Option<(Cond, &'a [Token])>, AllocError>
-    requires { length columns.now ≤ 256 }
-    ensures { IfOk result (λ o. option_map (λ x. (tree_of x.0, x.1.now)) o ≡ tests_at columns.now tokens.now) }
+/// Tests with AND between them.
+fn tests_at<'a>(alloc: Global, columns: &[Column], tokens: &'a [Token]) -> Reading<'a, Cond>
+    requires { length columns.now ≤ most_columns }
+    ensures { IfOk result (Gives tree_of (tests_at columns.now) tokens.now) }
 {
-    let Some((first, start)) = test_at(columns, tokens) else {
+    let Some(first) = test_at(columns, tokens) else {
         return Ok(None);
     };
     let mut tests = Vec::new(alloc);
-    tests.push(first)?;
-    let mut rest = start;
+    tests.push(first.value)?;
+    let mut rest = first.rest;
     'tests: loop {
-        let Some(after) = after_word(rest, b"AND") else {
-            return Ok(Some((all_of_tests(tests), rest)));
+        let Some(next) = next_test(columns, rest) else {
+            return Ok(Some(Read {
+                value: all_of_tests(tests),
+                rest,
+            }));
         };
-        let Some((test, after)) = test_at(columns, after) else {
-            return Ok(Some((all_of_tests(tests), rest)));
-        };
-        tests.push(test)?;
-        rest = after;
+        tests.push(next.value)?;
+        rest = next.rest;
     }
 }
 
-/// The condition behind a table's name, and the tokens behind it.
-fn cond_at<'a>(
-    alloc: Global,
-    columns: &[Column],
-    tokens: &'a [Token],
-) -> Result<Option<(Cond, &'a [Token])>, AllocError>
-    requires { length columns.now ≤ 256 }
-    ensures { IfOk result (λ o. option_map (λ x. (tree_of x.0, x.1.now)) o ≡ cond_at columns.now tokens.now) }
+/// The condition behind a table's name.
+fn cond_at<'a>(alloc: Global, columns: &[Column], tokens: &'a [Token]) -> Reading<'a, Cond>
+    requires { length columns.now ≤ most_columns }
+    ensures { IfOk result (Gives tree_of (cond_at columns.now) tokens.now) }
 {
     if let Some(behind) = after_word(tokens, b"WHERE") {
         return tests_at(alloc, columns, behind);
     }
-    Ok(Some((Cond::Truth(Tri::T), tokens)))
+    Ok(Some(Read {
+        value: Cond::Truth(Tri::T),
+        rest: tokens,
+    }))
 }
 
-/// A SELECT statement, and the tokens behind it.
-fn query_at<'a>(
-    alloc: Global,
-    tokens: &'a [Token],
-    schema: &Schema,
-) -> Result<Option<(Query, &'a [Token])>, AllocError>
-    requires { length schema.now.columns ≤ 256 }
-    ensures value { IfOk result (λ o. option_map (λ x. (asked_of x.0, x.1.now)) o ≡ query_at schema.now tokens.now) }
-    ensures within { IfOk result (λ o. IfSome o (λ x. All (λ n. n < length schema.now.columns) x.0.columns)) }
+/// The condition behind the name of the table in hand.
+fn rows_of<'a>(alloc: Global, schema: &Schema, tokens: &'a [Token]) -> Reading<'a, Cond>
+    requires { length schema.now.columns ≤ most_columns }
+    ensures { IfOk result (Gives tree_of (rows_of schema.now) tokens.now) }
+{
+    let Some(table) = plain_name_at(tokens) else {
+        return Ok(None);
+    };
+    if !same_name(table.value, schema.table.as_slice()) {
+        return Ok(None);
+    }
+    cond_at(alloc, schema.columns.as_slice(), table.rest)
+}
+
+/// A SELECT statement.
+fn query_at<'a>(alloc: Global, schema: &Schema, tokens: &'a [Token]) -> Reading<'a, Query>
+    requires { length schema.now.columns ≤ most_columns }
+    ensures value { IfOk result (Gives question_of (query_at schema.now) tokens.now) }
+    ensures within { IfOk result (λ o. IfSome o (λ x. All (λ n. n < length schema.now.columns) x.value.columns)) }
 {
     let Some(behind) = after_word(tokens, b"SELECT") else {
         return Ok(None);
     };
-    let Some((columns, behind)) = columns_at(alloc, schema.columns.as_slice(), behind)? else {
+    let Some(columns) = columns_at(alloc, schema.columns.as_slice(), behind)? else {
         return Ok(None);
     };
-    let Some(behind) = after_word(behind, b"FROM") else {
+    let Some(behind) = after_word(columns.rest, b"FROM") else {
         return Ok(None);
     };
-    let Some((table, behind)) = plain_name_at(behind) else {
+    let Some(cond) = rows_of(alloc, schema, behind)? else {
         return Ok(None);
     };
-    if !same_word(table, schema.table.as_slice()) {
-        return Ok(None);
-    }
-    let Some((cond, rest)) = cond_at(alloc, schema.columns.as_slice(), behind)? else {
-        return Ok(None);
+    let query = Query {
+        columns: columns.value,
+        cond: cond.value,
     };
-    Ok(Some((Query { columns, cond }, rest)))
+    Ok(Some(Read {
+        value: query,
+        rest: cond.rest,
+    }))
 }
 
 /// A SELECT statement with nothing behind it but a semicolon.
-fn last_at(alloc: Global, tokens: &[Token], schema: &Schema) -> Result<Option<Query>, AllocError>
-    requires { length schema.now.columns ≤ 256 }
-    ensures value { IfOk result (λ o. option_map asked_of o ≡ last_at schema.now tokens.now) }
+fn last_at(alloc: Global, schema: &Schema, tokens: &[Token]) -> Result<Option<Query>, AllocError>
+    requires { length schema.now.columns ≤ most_columns }
+    ensures value { IfOk result (λ o. option_map question_of o ≡ last_at schema.now tokens.now) }
     ensures within { IfOk result (λ o. IfSome o (λ q. All (λ n. n < length schema.now.columns) q.columns)) }
 {
-    let Some((query, rest)) = query_at(alloc, tokens, schema)? else {
+    let Some(query) = query_at(alloc, schema, tokens)? else {
         return Ok(None);
     };
-    if !is_end(rest) {
+    if !is_end(query.rest) {
         return Ok(None);
     }
-    Ok(Some(query))
+    Ok(Some(query.value))
 }
 
 /// The tokens behind the statement that sets the trace.
@@ -362,14 +392,14 @@ fn after_trace(tokens: &[Token]) -> Option<&[Token]>
 }
 
 /// The statements of all tokens of a script.
-fn script_at(alloc: Global, tokens: &[Token], schema: &Schema) -> Result<Option<Script>, AllocError>
-    requires { length schema.now.columns ≤ 256 }
+fn script_at(alloc: Global, schema: &Schema, tokens: &[Token]) -> Result<Option<Script>, AllocError>
+    requires { length schema.now.columns ≤ most_columns }
     ensures value { IfOk result (λ o. option_map (map step_of) o ≡ script_at schema.now tokens.now) }
     ensures within { IfOk result (λ o. IfSome o (All (SelectsWithin (length schema.now.columns)))) }
 {
     let mut script = Script::new(alloc);
     if let Some(behind) = after_trace(tokens) {
-        let Some(query) = last_at(alloc, behind, schema)? else {
+        let Some(query) = last_at(alloc, schema, behind)? else {
             return Ok(None);
         };
         script.push(Numbered {
@@ -382,7 +412,7 @@ fn script_at(alloc: Global, tokens: &[Token], schema: &Schema) -> Result<Option<
         })?;
         return Ok(Some(script));
     }
-    let Some(query) = last_at(alloc, tokens, schema)? else {
+    let Some(query) = last_at(alloc, schema, tokens)? else {
         return Ok(None);
     };
     script.push(Numbered {
@@ -399,7 +429,7 @@ fn script_at(alloc: Global, tokens: &[Token], schema: &Schema) -> Result<Option<
 ///
 /// `NotBuilt`: the text isn't so.
 pub fn read_script_form(alloc: Global, text: &[u8], schema: &Schema) -> Result<Script, FormFault>
-    requires { length schema.now.columns ≤ 256 }
+    requires { length schema.now.columns ≤ most_columns }
     ensures exact { IfOk result (λ s. script_form schema.now text.now ≡ Some (map step_of s)) }
     ensures refused { IsErrOf result FormFault.NotBuilt → script_form schema.now text.now ≡ None }
     ensures columns { IfOk result (All (SelectsWithin (length schema.now.columns))) }
@@ -410,7 +440,7 @@ pub fn read_script_form(alloc: Global, text: &[u8], schema: &Schema) -> Result<S
     if scanned.bad.is_some() {
         return Err(FormFault::NotBuilt);
     }
-    match script_at(alloc, scanned.list.as_slice(), schema) {
+    match script_at(alloc, schema, scanned.list.as_slice()) {
         Ok(Some(script)) => Ok(script),
         Ok(None) => Err(FormFault::NotBuilt),
         Err(_) => Err(FormFault::NoMemory),

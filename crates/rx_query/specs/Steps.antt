@@ -1,34 +1,34 @@
 -- What the statements of a script ask for, as plain data.
 use Rattle.std.specs.Prelude.{ℕ, ◌<◌, List, All}
 use Rattle.rx_cond.specs.Tree.{Tree, tree_of}
-use Rattle.rx_forms.specs.declared.statements.Query.{Query as TheQuery}
-use Rattle.rx_forms.specs.declared.statements.Setting.{Setting}
-use Rattle.rx_forms.specs.declared.statements.Statement.{Statement}
-use Rattle.rx_forms.specs.declared.statements.Statement.TheVariants.{Query, Change}
-use Rattle.rx_forms.specs.declared.statements.Numbered.{Numbered}
+use Rattle.rx_query.specs.declared.statements.Query.{Query as TheQuery}
+use Rattle.rx_query.specs.declared.statements.Setting.{Setting}
+use Rattle.rx_query.specs.declared.statements.Statement.{Statement}
+use Rattle.rx_query.specs.declared.statements.Statement.TheVariants.{Query, Change}
+use Rattle.rx_query.specs.declared.statements.Numbered.{Numbered}
 
--- the numbers of the columns to print, and the condition of their rows
-pub record Asked : Type 0 where
+-- what a SELECT asks: the numbers of the columns to print, and the condition of their rows
+pub record Question : Type 0 where
   pub columns : List ℕ
   pub cond : Tree
 
--- a query, or the change of a setting
+-- a SELECT, or the change of a setting
 pub data Request : Type 0 where
-  query : Asked → Request
+  select : Question → Request
   change : Setting → Request
 
--- a statement by the number of its segment between semicolons, from 1
+-- a request and the number of its segment between semicolons, from 1
 pub record Step : Type 0 where
   pub number : ℕ
   pub request : Request
 
--- what a query asks for
-abbrev pub asked_of : TheQuery → Asked
-asked_of q = record { columns = q.columns; cond = tree_of q.cond }
+-- the question of a query
+abbrev pub question_of : TheQuery → Question
+question_of q = record { columns = q.columns; cond = tree_of q.cond }
 
--- what a statement asks for
+-- the request of a statement
 abbrev pub request_of : Statement → Request
-request_of (Query q) = query (asked_of q)
+request_of (Query q) = select (question_of q)
 request_of (Change setting) = change setting
 
 -- a statement as a step
