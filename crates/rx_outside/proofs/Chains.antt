@@ -2,7 +2,7 @@
 use Rattle.std.proofs.Common.{◌≡◌, ◌≤◌, ℕ, ◌+◌, Bool, List, ◌++◌, length, Option, Some, None, arith, refl, sym, ap, subst, ◌∙◌, length-append}
 use Rattle.std.proofs.lemmas.List.{append_assoc}
 use Rattle.rx_outside.specs.Causes.{rise, Rose}
-use Rattle.rx_outside.specs.Files.{KeepsFiles}
+use Rattle.rx_outside.specs.Files.{KeepsFiles, TakesUpTo}
 use Rattle.rx_outside.specs.Sink.{Takes, IsFront, LeavesRoom, TakesFront}
 
 module _ {F : Type 0} {told : F → List ℕ → Option (List ℕ)} {sure : F → List ℕ → Bool} {room : F → List ℕ → Option ℕ} where
@@ -65,3 +65,11 @@ TakesFront-then t u v r s q xs ys h g f = record {
   text = Takes-chain t u v xs f.front h f.text;
   room = rw (length-append xs f.front) (LeavesRoom-chain r s q (length xs) (length f.front) g f.room);
 }
+
+-- the bytes that two calls take
+pub TakesUpTo-chain : (m k a b c : ℕ) → TakesUpTo m a b → TakesUpTo k b c → TakesUpTo (m + k) a c
+TakesUpTo-chain m k a b c (i, few, is) (j, few_more, then) = (i + j, omega (arith, few, few_more), then ∙ ap (rise j) is ∙ rise-more i j a)
+
+-- what takes at most so many bytes takes at most more of them
+pub TakesUpTo-within : (m k a b : ℕ) → m ≤ k → TakesUpTo m a b → TakesUpTo k a b
+TakesUpTo-within m k a b less (i, few, is) = (i, omega (arith, few, less), is)

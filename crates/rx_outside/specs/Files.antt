@@ -53,6 +53,11 @@ FaultShows before now told limit NoMemory = Unit {0}
 abbrev pub TakesUpTo : ℕ → ℕ → ℕ → Type 0
 TakesUpTo limit before now = (n : ℕ) × (n ≤ limit) × (now ≡ rise n before)
 
+-- how many bytes a whole read takes at most: those of the contents, and where they aren't told as many as the limit
+abbrev pub most_taken : Option (List ℕ) → ℕ → ℕ
+most_taken None limit = limit
+most_taken (Some bytes) limit = length bytes
+
 -- the bytes that a whole read takes: the answer's at Ok, none where nothing was read, and at most the limit in any case
 abbrev pub WholeTakes : ℕ → ℕ → ℕ → Result (List ℕ) FileFault → Type 0
 WholeTakes limit before now (Ok answer) = now ≡ rise (length answer) before

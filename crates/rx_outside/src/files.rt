@@ -2,7 +2,7 @@ ghost use Rattle.std.specs.Prelude.{◌≡◌, ◌≢◌, ◌<◌, ◌≤◌, �
 ghost use Rattle.std.specs.Prelude.{Option, Some, Err, IsTrue, IfOk, IfErr, OnOk, OnErr, IsOk, length};
 ghost use Rattle.rx_outside.specs.Causes.{rise, Rose};
 ghost use Rattle.rx_outside.specs.Files.{KeepsFiles, IsLength, GivesPart, OthersStay, HoldsNow};
-ghost use Rattle.rx_outside.specs.Files.{LosesName, IsWhole, FaultShows, WholeTakes, TakesUpTo};
+ghost use Rattle.rx_outside.specs.Files.{LosesName, IsWhole, FaultShows, WholeTakes, TakesUpTo, most_taken};
 ghost use Rattle.rx_outside.specs.Buffer.{IsFrontOf, EndsBy, FillsFront};
 ghost use Rattle.rx_outside.specs.declared.files.FileFault.TheVariants.{ReadFault};
 
@@ -100,6 +100,7 @@ pub fn read_whole<F: Files>(
         → (result ≢ Err ReadFault) × (F.faults files.new ≡ F.faults files.old) }
     ensures keeps { KeepsFiles F.told F.sure F.room files.old files.new }
     ensures taken { WholeTakes limit (F.taken files.old) (F.taken files.new) result }
+    ensures bound { TakesUpTo (most_taken (F.told files.old name.now) limit) (F.taken files.old) (F.taken files.new) }
 {
     let Ok(length) = files.length(name) else {
         return Err(FileFault::ReadFault);

@@ -15,5 +15,5 @@ pub use sinks::{Sink, WriteFault, write_all};
 pub use sure::{SureFiles, SureSink};
 
 /// A call of the outside failed.
-#[derive(Clone, Copy, Debug, PartialEq, Eq, Drop)]
+#[derive(Clone, Copy, Drop)]
 pub struct Failed;

@@ -21,6 +21,7 @@ pub trait Sink {
     fn put(&mut self, piece: &[u8]) -> Result<usize, Failed>
         ensures later { faults self.old ≤ faults self.new }
         ensures cause { OnErr result (Rose (faults self.old) (faults self.new)) }
+        ensures no_fault { OnOk result (faults self.new ≡ faults self.old) }
         ensures takes { IfOk result (λ n. TakesSome (text self.old) (text self.new) piece.now n) }
         ensures refused { OnErr result (text self.new ≡ text self.old) }
         ensures sure { (r : ℕ) → room self.old ≡ Some r → 0 < r → IsOk result × (faults self.new ≡ faults self.old) }
@@ -29,7 +30,7 @@ pub trait Sink {
 }
 
 /// A piece was not taken whole, since a call of the sink failed.
-#[derive(Clone, Copy, Debug, PartialEq, Eq, Drop, Error)]
+#[derive(Clone, Copy, Debug, Drop, Error)]
 #[error("the text could not be written")]
 pub struct WriteFault;
 
@@ -40,6 +41,7 @@ pub struct WriteFault;
 pub fn write_all<O: Sink>(out: &mut O, piece: &[u8]) -> Result<(), WriteFault>
     ensures later { O.faults out.old ≤ O.faults out.new }
     ensures cause { OnErr result (Rose (O.faults out.old) (O.faults out.new)) }
+    ensures no_fault { OnOk result (O.faults out.new ≡ O.faults out.old) }
     ensures whole { OnOk result (Takes (O.text out.old) (O.text out.new) piece.now) }
     ensures room { OnOk result (LeavesRoom (O.room out.old) (O.room out.new) (length piece.now)) }
     ensures front { OnErr result

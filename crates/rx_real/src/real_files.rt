@@ -1,4 +1,5 @@
-ghost use Rattle.std.specs.Prelude.{ℕ, None, false, IfOk, ◌≤◌, length};
+ghost use Rattle.std.specs.Prelude.{◌≡◌, ℕ, None, false, IfOk, ◌≤◌, length};
+ghost use Rattle.rx_outside.specs.Causes.{rise};
 
 use rx_outside::{Failed, Files};
 use std::fs::{self, OpenFile};
@@ -23,6 +24,14 @@ impl<R: Runtime> RealFiles<R> {
             taken: 0,
         }
     }
+
+    // Counts a fault.
+    fn fail(&mut self) -> Failed
+        ensures { self.new ≡ record self.old { faults = rise 1 self.old.faults } }
+    {
+        self.faults = self.faults.saturating_add(1);
+        Failed
+    }
 }
 
 impl<R: Runtime> Files for RealFiles<R> {
@@ -36,13 +45,11 @@ impl<R: Runtime> Files for RealFiles<R> {
 
     ghost room = { λ s q. None };
 
+    /// Fails also where the name is one of a directory, a pipe or a device.
     fn length(&mut self, name: &str) -> Result<u64, Failed> {
-        match fs::metadata(&self.rt, name) {
-            Ok(found) => Ok(found.len()),
-            Err(_) => {
-                self.faults = self.faults.saturating_add(1);
-                Err(Failed)
-            }
+        match regular_length(&self.rt, name) {
+            Ok(length) => Ok(length),
+            Err(Failed) => Err(self.fail()),
         }
     }
 
@@ -52,28 +59,33 @@ impl<R: Runtime> Files for RealFiles<R> {
                 self.taken = self.taken.saturating_add(n as u64);
                 Ok(n)
             }
-            Err(Failed) => {
-                self.faults = self.faults.saturating_add(1);
-                Err(Failed)
-            }
+            Err(Failed) => Err(self.fail()),
         }
     }
 
     fn replace(&mut self, name: &str, bytes: &[u8]) -> Result<(), Failed> {
         match write_whole(&self.rt, name, bytes) {
             Ok(()) => Ok(()),
-            Err(Failed) => {
-                self.faults = self.faults.saturating_add(1);
-                Err(Failed)
-            }
+            Err(Failed) => Err(self.fail()),
         }
     }
 }
 
-// Reads from an offset of a file on, and answers how many bytes.
+// The length of a regular file. What is none tells a length of 0, whatever can be read of it.
+fn regular_length<R: Runtime>(rt: &R, name: &str) -> Result<u64, Failed> {
+    match fs::metadata(rt, name) {
+        Ok(found) if found.is_file() => Ok(found.len()),
+        _ => Err(Failed),
+    }
+}
+
+// Reads from an offset of a regular file on, and answers how many bytes.
 fn read_part<R: Runtime>(rt: &R, name: &str, at: u64, into: &mut [u8]) -> Result<usize, Failed>
     ensures { IfOk result (λ n. n ≤ length into.new) }
 {
+    let Ok(_) = regular_length(rt, name) else {
+        return Err(Failed);
+    };
     let Ok(mut file) = fs::open(rt, name) else {
         return Err(Failed);
     };

@@ -1,17 +1,9 @@
--- The values that a query selects of a row, and the text of an output row.
-use Rattle.std.specs.Prelude.{◌≡◌, ℕ, List, [], ◌∷◌, ◌++◌, map, codes, slice_index_or, if◌then◌else◌, ◌==◌}
+-- The text of output rows.
+use Rattle.std.specs.Prelude.{◌≡◌, ℕ, List, [], ◌∷◌, ◌++◌, length, codes, if◌then◌else◌, ◌==◌}
 use Rattle.std.specs.List.{flat_map}
-use Rattle.std.specs.Fmt.{signed_decimal}
+use Rattle.std.specs.Fmt.{decimal, signed_decimal}
 use Rattle.rx_value.specs.declared.values.Value.{Value}
 use Rattle.rx_value.specs.declared.values.Value.TheVariants.{Null, Int, Text}
-
--- the value of a column, NULL where there is no such column
-abbrev pub value_at : List Value → ℕ → Value
-value_at row column = slice_index_or row column Null
-
--- the values of these columns in their order
-abbrev pub picked : List ℕ → List Value → List Value
-picked columns row = map (value_at row) columns
 
 -- a byte of a text as it is printed
 abbrev pub escaped : ℕ → List ℕ
@@ -41,6 +33,14 @@ values_text (v ∷ vs) = value_text v ++ behind_tabs vs
 -- the line of an output row
 abbrev pub line_of : List Value → List ℕ
 line_of row = values_text row ++ 10 ∷ []
+
+-- the line that says how many rows there are
+abbrev pub footer_of : ℕ → List ℕ
+footer_of n = codes "\\. " ++ decimal n ++ 10 ∷ []
+
+-- a line per row, and then their number
+abbrev pub block_of : List (List Value) → List ℕ
+block_of rows = flat_map line_of rows ++ footer_of (length rows)
 
 -- the second list begins with the first
 abbrev pub GoesOn : List ℕ → List ℕ → Type 0

@@ -1,8 +1,8 @@
-//! Output rows: the values that a query selects, and their lines of text.
+//! Rows on their way out: which ones a query selects, what it takes of each, and their lines of text.
 #![tactic(auto)]
 
+mod choosing;
 mod lines;
-mod picks;
 
-pub use lines::print_row;
-pub use picks::pick;
+pub use choosing::{Projected, is_selected, project};
+pub use lines::{print_footer, print_projected, print_row};

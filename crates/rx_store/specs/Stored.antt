@@ -2,6 +2,7 @@
 use Rattle.std.specs.Prelude.{◌≤◌, List, length, All}
 use Rattle.rx_value.specs.declared.values.Value.{Value}
 use Rattle.rx_value.specs.declared.shapes.Schema.{Schema}
+use Rattle.rx_value.specs.Limits.{most_rows}
 use Rattle.rx_value.specs.Shape.{IsSchema, FitsRow}
 use Rattle.rx_store.specs.declared.tables.Counts.{Counts}
 
@@ -18,5 +19,5 @@ no_counts = record { seeks = 0; entries = 0; rows = 0 }
 -- rows that may stand in a table of this shape
 pub record IsStorable (schema : Schema) (rows : List (List Value)) : Type 0 where
   pub limits : IsSchema schema
-  pub few : length rows ≤ 1000000
+  pub few : length rows ≤ most_rows
   pub fit : All (FitsRow schema) rows

@@ -20,26 +20,35 @@ abbrev pub IsRow : Option (List (List Value)) → ℕ → List Value → Type 0
 IsRow None id row = Unit {0}
 IsRow (Some rows) id row = slice_get rows id ≡ Some row
 
--- the counts of faults never fall
-pub record Later {S : Type 0} (faults damages : S → ℕ) (old new : S) : Type 0 where
-  pub faults_later : faults old ≤ faults new
-  pub damages_later : damages old ≤ damages new
+-- What a table means and no call changes: its shape, its rows in the order of their ids, where told, their number, told or not; the
+-- offsets at which nothing of a table stands; and whether no read can fail.
+pub record Meaning : Type 0 where
+  pub schema : Schema
+  pub rows : Option (List (List Value))
+  pub count : ℕ
+  pub flawed : ℕ → Bool
+  pub sure : Bool
+
+-- What the calls of a table raise: what was read, how often a read failed, and how often something damaged was read.
+pub record Tally : Type 0 where
+  pub counts : Counts
+  pub faults : ℕ
+  pub damages : ℕ
 
 -- A read fails only where the count of faults rose, and never where the table is sure;
 -- damage comes only where its count rose, at an offset that is flawed; want of memory is free.
-abbrev pub Caused : {S : Type 0} → (S → ℕ) → (S → ℕ) → (S → ℕ → Bool) → (S → Bool) → S → S → TableFault → Type 0
-Caused faults damages flawed sure old new ReadFault = Rose (faults old) (faults new) × (sure old ≡ true → ⊥)
-Caused faults damages flawed sure old new (Damaged at) = Rose (damages old) (damages new) × (flawed old at ≡ true)
-Caused faults damages flawed sure old new NoMemory = Unit {0}
+abbrev pub Caused : {S : Type 0} → (S → Meaning) → (S → Tally) → S → S → TableFault → Type 0
+Caused means tally old new ReadFault = Rose (tally old).faults (tally new).faults × ((means old).sure ≡ true → ⊥)
+Caused means tally old new (Damaged at) = Rose (tally old).damages (tally new).damages × ((means old).flawed at ≡ true)
+Caused means tally old new NoMemory = Unit {0}
 
--- what no call changes
-pub record Keeps {S : Type 0} (schema : S → Schema) (told : S → Option (List (List Value))) (count : S → ℕ) (flawed : S → ℕ → Bool) (sure : S → Bool) (kept : S → S → Type 0) (old new : S) : Type 0 where
-  pub schema_stays : schema new ≡ schema old
-  pub told_stays : told new ≡ told old
-  pub count_stays : count new ≡ count old
-  pub flawed_stays : flawed new ≡ flawed old
-  pub sure_stays : sure new ≡ sure old
+-- What every call keeps: what the table means and what is kept; no count falls, and no read fails where the table is sure.
+pub record Keeps {S : Type 0} (means : S → Meaning) (tally : S → Tally) (kept : S → S → Type 0) (old new : S) : Type 0 where
+  pub means_stays : means new ≡ means old
   pub kept_so : kept old new
+  pub faults_later : (tally old).faults ≤ (tally new).faults
+  pub damages_later : (tally old).damages ≤ (tally new).damages
+  pub sure : (means old).sure ≡ true → (tally new).faults ≡ (tally old).faults
 
 -- the counts after these more
 abbrev pub add_counts : Counts → Counts → Counts

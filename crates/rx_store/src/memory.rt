@@ -44,21 +44,9 @@ impl MemTable {
 }
 
 impl Table for MemTable {
-    ghost schema_of = { λ t. t.schema };
+    ghost means = { λ t. record { schema = t.schema; rows = Some t.rows; count = length t.rows; flawed = λ at. false; sure = true } };
 
-    ghost told = { λ t. Some t.rows };
-
-    ghost row_count = { λ t. length t.rows };
-
-    ghost counted = { λ t. t.counts };
-
-    ghost faults = { λ t. 0 };
-
-    ghost damages = { λ t. 0 };
-
-    ghost flawed = { λ t at. false };
-
-    ghost sure = { λ t. true };
+    ghost tally = { λ t. record { counts = t.counts; faults = 0; damages = 0 } };
 
     ghost kept = { λ old new. Unit {0} };
 
@@ -77,7 +65,7 @@ impl Table for MemTable {
     }
 
     fn rows(&self) -> u64 {
-        self.rows.as_slice().len() as u64
+        self.rows.len() as u64
     }
 
     fn row(&mut self, alloc: Global, id: u64) -> Result<Row, TableFault> {

@@ -1,9 +1,7 @@
-ghost use Rattle.std.specs.Prelude.{◌≡◌, ◌<◌, ◌≤◌, ℕ, List, Option, Bool, true, IfOk, IfErr, IfSome, OnOk, OnErr, length};
-ghost use Rattle.rx_value.specs.declared.values.Value.{Value};
-ghost use Rattle.rx_value.specs.declared.shapes.Schema.{Schema as schema};
+ghost use Rattle.std.specs.Prelude.{◌≡◌, ◌<◌, ◌≤◌, IfOk, IfErr, IfSome, OnOk, OnErr, length};
+ghost use Rattle.rx_value.specs.Limits.{most_rows};
 ghost use Rattle.rx_value.specs.Shape.{IsSchema, FitsRow};
-ghost use Rattle.rx_store.specs.declared.tables.Counts.{Counts as counts_record};
-ghost use Rattle.rx_store.specs.Tables.{with_row, IsRow, Later, Caused, Keeps};
+ghost use Rattle.rx_store.specs.Tables.{Meaning as meaning, Tally as tally_record, with_row, IsRow, Caused, Keeps};
 
 use rx_value::{Row, Schema};
 use std::alloc::Global;
@@ -24,7 +22,7 @@ pub enum TableFault {
 }
 
 /// How many seeks were answered, and how many entries and rows were read. Each count stays at its last value.
-#[derive(Clone, Copy, Debug, PartialEq, Eq)]
+#[derive(Clone, Copy)]
 pub struct Counts {
     pub seeks: u64,
     pub entries: u64,
@@ -33,22 +31,10 @@ pub struct Counts {
 
 /// The rows of one table, numbered from 0, and the counts of what was read.
 pub trait Table {
-    // the shape of the rows
-    ghost schema_of: { Self → schema };
-    // the rows in the order of their ids, where they are told
-    ghost told: { Self → Option (List (List Value)) };
-    // the number of rows, told or not
-    ghost row_count: { Self → ℕ };
-    // what was read so far
-    ghost counted: { Self → counts_record };
-    // how often a read failed, and how often something damaged was read
-    ghost faults: { Self → ℕ };
-
-    ghost damages: { Self → ℕ };
-    // at this offset nothing of a table stands
-    ghost flawed: { Self → ℕ → Bool };
-    // no read can fail
-    ghost sure: { Self → Bool };
+    // what it means, which no call changes
+    ghost means: { Self → meaning };
+    // what its calls raise
+    ghost tally: { Self → tally_record };
     // what each call leaves, and what the calls that answer may cost
     ghost kept: { Self → Self → Type 0 };
 
@@ -56,31 +42,29 @@ pub trait Table {
 
     /// The shape of the table.
     fn shape(&self) -> &Schema
-        ensures value { result.now ≡ schema_of self.now }
+        ensures value { result.now ≡ (means self.now).schema }
         ensures limits { IsSchema result.now };
 
     /// The number of rows.
     fn rows(&self) -> u64
-        ensures value { result ≡ row_count self.now }
-        ensures few { result ≤ 1000000 }
-        ensures told { IfSome (told self.now) (λ rows. length rows ≡ result) };
+        ensures value { result ≡ (means self.now).count }
+        ensures few { result ≤ most_rows }
+        ensures told { IfSome (means self.now).rows (λ rows. length rows ≡ result) };
 
     /// The row with this id. It may fail to be read, be damaged, or find no memory.
     fn row(&mut self, alloc: Global, id: u64) -> Result<Row, TableFault>
-        requires { id < row_count self.old }
-        ensures told { IfOk result (IsRow (told self.old) id) }
-        ensures fits { IfOk result (FitsRow (schema_of self.old)) }
-        ensures counts { OnOk result (counted self.new ≡ with_row (counted self.old)) }
-        ensures refused { OnErr result (counted self.new ≡ counted self.old) }
-        ensures later { Later faults damages self.old self.new }
-        ensures cause { IfErr result (Caused faults damages flawed sure self.old self.new) }
-        ensures sure { sure self.old ≡ true → faults self.new ≡ faults self.old }
-        ensures keeps { Keeps schema_of told row_count flawed sure kept self.old self.new }
+        requires { id < (means self.old).count }
+        ensures told { IfOk result (IsRow (means self.old).rows id) }
+        ensures fits { IfOk result (FitsRow (means self.old).schema) }
+        ensures counts { OnOk result ((tally self.new).counts ≡ with_row (tally self.old).counts) }
+        ensures refused { OnErr result ((tally self.new).counts ≡ (tally self.old).counts) }
+        ensures cause { IfErr result (Caused means tally self.old self.new) }
+        ensures keeps { Keeps means tally kept self.old self.new }
         ensures spent { OnOk result (spent self.old self.new) };
 
     /// What was read so far.
     fn counts(&self) -> Counts
-        ensures { result ≡ counted self.now };
+        ensures { result ≡ (tally self.now).counts };
 
     // a table is kept, and nothing is spent, where no call comes or where calls follow each other
     ghost kept_same: { (t : Self) → kept t t };

@@ -7,10 +7,8 @@ pub loop-at-preserved : goal.loop-at-preserved
 loop-at-preserved g c = (
   within-drop c.loop-at.at c.in-Ok.n c.args.piece.now _ c.tail.ensures c.in-Ok.ensures.takes.within c.loop-at.invariant.0,
   Takes-then _ _ _ c.loop-at.at c.in-Ok.n c.args.piece.now c.loop-at.invariant.1 (rw (← c.tail.ensures) c.in-Ok.ensures.takes.text),
-  omega (arith, c.loop-at.invariant.2, c.in-Ok.ensures.later),
+  c.in-Ok.ensures.no_fault ∙ c.loop-at.invariant.2,
   LeavesRoom-chain _ _ _ c.loop-at.at c.in-Ok.n c.loop-at.invariant.3 c.in-Ok.ensures.room,
-  λ r is le. let (s, there, sum) = LeavesRoom-left _ _ c.loop-at.at r is c.loop-at.invariant.3 in
-      (c.put.ensures.sure s there (omega (arith, c.loop-at-test.true))).1 ∙ c.loop-at.invariant.4 r is le,
 )
 
 pub returns-in_default-clause-front : goal.returns-in_default-clause-front

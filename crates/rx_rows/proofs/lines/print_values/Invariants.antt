@@ -1,6 +1,6 @@
 use Rattle.std.proofs.Common.{◌≡◌, ◌++◌, take}
-use Rattle.rx_rows.specs.Lines.{behind_tabs}
+use Rattle.rx_rows.proofs.Columns.{later_columns}
 use Rattle.rx_rows.proofs.lines.print_values.Given as goal
 
-abbrev pub invariant-loop-value : goal.invariant-loop-value
-invariant-loop-value l = l.into ≡ l.initial.into ++ behind_tabs (take l.value-index l.rest)
+abbrev pub invariant-loop-column : goal.invariant-loop-column
+invariant-loop-column l = l.into ≡ l.initial.into ++ later_columns l.row (take l.column-index l.rest)
