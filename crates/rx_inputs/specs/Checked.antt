@@ -1,6 +1,6 @@
 -- Inputs that are checked one after the other.
 use Rattle.std.specs.Prelude.{◌≡◌, ℕ, List, length, Option, Some, None, Result, Ok, Err, nat_lt, if◌then◌else◌}
-use Rattle.rx_inputs.specs.declared.refusals.Input.{Input}
+use Rattle.rx_inputs.specs.declared.inputs.Input.{Input}
 use Rattle.rx_inputs.specs.Refusals.{Refusal, too_long, not_built, limit_of, line_of_refusal}
 
 -- what a check of inputs gives

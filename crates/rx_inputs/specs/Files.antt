@@ -6,11 +6,27 @@ use Rattle.rx_value.specs.declared.shapes.Schema.{Schema as TheSchema}
 use Rattle.rx_schema.specs.Schema.{read_of}
 use Rattle.rx_data.specs.Rows.{data_rows}
 use Rattle.rx_forms.specs.Script.{script_form}
-use Rattle.rx_forms.specs.Step.{Step}
-use Rattle.rx_inputs.specs.declared.refusals.Input.TheVariants.{Schema, Data, Script}
+use Rattle.rx_query.specs.Steps.{Step}
+use Rattle.rx_inputs.specs.declared.inputs.FileNames.{FileNames}
+use Rattle.rx_inputs.specs.declared.inputs.Input.TheVariants.{Schema, Data, Script}
 use Rattle.rx_inputs.specs.Refusals.{not_built, no_schema, no_rows}
 use Rattle.rx_inputs.specs.Checked.{Checked, and_then, text_of_file, unless_fault, built}
 use Rattle.rx_inputs.specs.Checked.Checked.{Accepts, Refuses}
+
+-- the names of a schema's, a data's and a script's file
+pub record Names : Type 0 where
+  pub schema : List ℕ
+  pub rows : List ℕ
+  pub script : List ℕ
+
+-- the names of files as plain data
+abbrev pub named : FileNames → Names
+named names = record { schema = names.schema.now; rows = names.«data».now; script = names.script.now }
+
+-- the rows and the steps of a script, accepted over a schema
+pub record Contents : Type 0 where
+  pub rows : List (List Value)
+  pub steps : List Step
 
 -- a schema, rows and a script, all accepted
 pub record Held : Type 0 where
@@ -38,10 +54,16 @@ rows_of_file schema told = and_then (text_of_file Data told) (λ text. unless_fa
 abbrev pub steps_of_file : TheSchema → Option (List ℕ) → Checked (List Step)
 steps_of_file schema told = and_then (text_of_file Script told) (λ text. built Script (script_form schema text))
 
--- Files, read and checked one after the other: schema, data, script.
-abbrev pub held_by : (List ℕ → Option (List ℕ)) → List ℕ → List ℕ → List ℕ → Checked Held
-held_by told schema_file data_file script_file =
-    and_then (schema_of_file (told schema_file)) (λ schema.
-    and_then (rows_of_file schema (told data_file)) (λ rows.
-    and_then (steps_of_file schema (told script_file)) (λ steps.
-    Accepts (record { schema = schema; rows = rows; steps = steps }))))
+-- the files behind the schema, read and checked one after the other
+abbrev pub contents_by : (List ℕ → Option (List ℕ)) → Names → TheSchema → Checked Contents
+contents_by told names schema =
+    and_then (rows_of_file schema (told names.rows)) (λ rows.
+    and_then (steps_of_file schema (told names.script)) (λ steps.
+    Accepts (record { rows = rows; steps = steps })))
+
+-- all files, read and checked one after the other: schema, data, script
+abbrev pub held_by : (List ℕ → Option (List ℕ)) → Names → Checked Held
+held_by told names =
+    and_then (schema_of_file (told names.schema)) (λ schema.
+    and_then (contents_by told names schema) (λ contents.
+    Accepts (record { schema = schema; rows = contents.rows; steps = contents.steps })))

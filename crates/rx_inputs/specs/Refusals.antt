@@ -12,8 +12,8 @@ use Rattle.rx_schema.specs.declared.faults.SchemaFault.{SchemaFault}
 use Rattle.rx_schema.specs.declared.faults.SchemaFault.TheVariants as of_schema
 use Rattle.rx_data.specs.declared.faults.DataFault.{DataFault}
 use Rattle.rx_data.specs.declared.faults.DataFault.TheVariants as of_data
-use Rattle.rx_inputs.specs.declared.refusals.Input.{Input}
-use Rattle.rx_inputs.specs.declared.refusals.Input.TheVariants.{Schema, Data, Script}
+use Rattle.rx_inputs.specs.declared.inputs.Input.{Input}
+use Rattle.rx_inputs.specs.declared.inputs.Input.TheVariants.{Schema, Data, Script}
 
 -- why the words or a file are refused
 pub data Refusal : Type 0 where

@@ -1,13 +1,20 @@
 ghost use Rattle.std.specs.Prelude.{◌≡◌, IfOk};
 ghost use Rattle.std.specs.Fmt.{decimal};
-ghost use Rattle.rx_inputs.specs.Refusals.{column_name, named_line, field_line, schema_line, data_line, too_long, not_built, line_of_refusal};
+ghost use Rattle.rx_inputs.specs.Refusals.{words, too_long, not_built, line_of_refusal, which_text, many_text, column_name, named_line, field_line, schema_line, data_line};
 
-use crate::refusals::{Input, many_text, which_text};
+use crate::inputs::Input;
 use itoa::Buffer;
 use rx_data::DataFault;
-use rx_schema::SchemaFault;
+use rx_schema::{Many, SchemaFault, Which};
 use rx_value::{Bytes, Column};
 use std::alloc::{AllocError, Global};
+
+/// The line of words that are no command.
+pub fn words_line() -> &'static [u8]
+    ensures { result.now ≡ line_of_refusal words }
+{
+    b"refused: words\n"
+}
 
 /// The line of a file past its limit.
 pub(crate) fn too_long_line(input: Input) -> &'static [u8]
@@ -28,6 +35,33 @@ pub(crate) fn not_built_line(input: Input) -> &'static [u8]
         Input::Schema => b"refused: not built: schema\n",
         Input::Data => b"refused: not built: data\n",
         Input::Script => b"refused: not built: script\n",
+    }
+}
+
+// How a refusal calls what is outside the profile.
+fn which_text(which: Which) -> &'static [u8]
+    ensures { result.now ≡ which_text which }
+{
+    match which {
+        Which::ColumnType => b"column type",
+        Which::Length => b"length",
+        Which::Zerofill => b"zerofill",
+        Which::Collation => b"collation",
+        Which::CharacterSet => b"character set",
+        Which::KeyKind => b"key kind",
+        Which::Prefix => b"prefix",
+        Which::Descending => b"descending",
+    }
+}
+
+// How a refusal calls what there is too much of.
+fn many_text(many: Many) -> &'static [u8]
+    ensures { result.now ≡ many_text many }
+{
+    match many {
+        Many::Columns => b"columns",
+        Many::Indexes => b"indexes",
+        Many::Parts => b"parts",
     }
 }
 

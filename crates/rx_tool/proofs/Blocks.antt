@@ -7,12 +7,13 @@ use Rattle.std.proofs.lemmas.List.Folds.{concat-append}
 use Rattle.rx_value.specs.declared.values.Value.{Value}
 use Rattle.rx_outside.specs.Sink.{Takes, LeavesRoom}
 use Rattle.rx_outside.proofs.Chains.{LeavesRoom-chain}
-use Rattle.rx_forms.specs.Step.{Step}
-use Rattle.rx_tool.specs.declared.settings.Settings.{Settings}
+use Rattle.rx_query.specs.Steps.{Step}
+use Rattle.rx_query.specs.declared.settings.Settings.{Settings}
 use Rattle.rx_tool.specs.declared.engine.SelectFault.{SelectFault}
 use Rattle.rx_tool.specs.declared.engine.SelectFault.TheVariants.{ReadFault, WriteFault, Damaged, NoMemory}
 use Rattle.rx_store.specs.declared.tables.Counts.{Counts}
-use Rattle.rx_tool.specs.Blocks.{blocks_of_step, blocks_from, settings_after, counts_after, counts_after_step}
+use Rattle.rx_query.specs.Settings.{settings_after}
+use Rattle.rx_tool.specs.Blocks.{blocks_of_step, blocks_from, counts_after, counts_after_step}
 use Rattle.rx_tool.specs.Running.{PutsSome, PutsFront, RunsStep, RunsScript, StopsStep, StopsScript, HasRoom, size_of, StepIsCalm, StepLeavesRoom, ScriptIsCalm}
 
 -- The blocks that were put and those that are to come are all.
@@ -20,7 +21,7 @@ abbrev pub PutsSoFar : Option (List (List Value)) → Settings → List Step →
 PutsSoFar None first steps now rest before after = Unit {0}
 PutsSoFar (Some rows) first steps now rest before after = (done : List (List ℕ)) × Takes before after (concat done) × (blocks_from first steps rows ≡ done ++ blocks_from now rest rows)
 
-Takes-nothing : (t : Option (List ℕ)) → Takes t t []
+pub Takes-nothing : (t : Option (List ℕ)) → Takes t t []
 Takes-nothing None = refl
 Takes-nothing (Some t) = ap Some (sym (append-nil t))
 

@@ -8,15 +8,16 @@ use Rattle.std.proofs.lemmas.Grind.{flat_map-append}
 use Rattle.rx_cond.specs.Tri.{is_true}
 use Rattle.rx_cond.specs.Tree.{truth_at}
 use Rattle.rx_value.specs.declared.values.Value.{Value}
-use Rattle.rx_forms.specs.Step.{Asked}
-use Rattle.rx_rows.specs.Lines.{picked, line_of}
+use Rattle.rx_query.specs.Steps.{Question}
+use Rattle.rx_rows.specs.Answer.{projected}
+use Rattle.rx_rows.specs.Lines.{line_of}
 use Rattle.rx_store.specs.Tables.{IsRow}
 use Rattle.rx_tool.specs.declared.printing.Printed.{Printed}
-use Rattle.rx_tool.specs.Answer.{answer, accepted}
+use Rattle.rx_rows.specs.Answer.{answer, selected}
 use Rattle.rx_tool.specs.Printed.{Adds, IsPrinted, PrintsAnswer}
 
 -- the lines of what the query answers over the first n rows, where the rows are told
-abbrev pub PrintsSoFar : Asked → Option (List (List Value)) → ℕ → Printed → Type 0
+abbrev pub PrintsSoFar : Question → Option (List (List Value)) → ℕ → Printed → Type 0
 PrintsSoFar q None n printed = Unit {0}
 PrintsSoFar q (Some rows) n printed = IsPrinted (answer q (take n rows)) printed
 
@@ -28,10 +29,10 @@ one_there (suc n) (x ∷ xs) row h = one_there n xs row h
 one_more : (n : ℕ) (rows : List (List Value)) (row : List Value) → slice_get rows n ≡ Some row → take (n + 1) rows ≡ take n rows ++ row ∷ []
 one_more n rows row h = take-add n 1 rows ∙ ap (λ t. take n rows ++ t) (one_there n rows row h)
 
-answer-append : (q : Asked) (xs ys : List (List Value)) → answer q (xs ++ ys) ≡ answer q xs ++ answer q ys
+answer-append : (q : Question) (xs ys : List (List Value)) → answer q (xs ++ ys) ≡ answer q xs ++ answer q ys
 answer-append q xs ys =
-    ap (map (picked q.columns)) (filter-append (λ row. is_true (truth_at q.cond row)) xs ys)
-    ∙ map-append (picked q.columns) (accepted q.cond xs) (accepted q.cond ys)
+    ap (map (projected q.columns)) (filter-append (λ row. is_true (truth_at q.cond row)) xs ys)
+    ∙ map-append (projected q.columns) (selected q.cond xs) (selected q.cond ys)
 
 -- printed rows, and then more
 prints-more : (xs ys : List (List Value)) (old new : Printed) → IsPrinted xs old → Adds ys old new → IsPrinted (xs ++ ys) new
@@ -41,28 +42,28 @@ prints-more xs ys old new p a = record {
 }
 
 -- one row more was read and printed where it is accepted
-pub printed-more : (told : Option (List (List Value))) (q : Asked) (n : ℕ) (row : List Value) (old new : Printed) → PrintsSoFar q told n old → IsRow told n row → Adds (answer q (row ∷ [])) old new → PrintsSoFar q told (n + 1) new
+pub printed-more : (told : Option (List (List Value))) (q : Question) (n : ℕ) (row : List Value) (old new : Printed) → PrintsSoFar q told n old → IsRow told n row → Adds (answer q (row ∷ [])) old new → PrintsSoFar q told (n + 1) new
 printed-more None q n row old new p is a = tt
 printed-more (Some rows) q n row old new p is a =
     let e : answer q (take (n + 1) rows) ≡ answer q (take n rows) ++ answer q (row ∷ []) = ap (answer q) (one_more n rows row is) ∙ answer-append q (take n rows) (row ∷ []) in
     subst (λ (xs : List (List Value)). IsPrinted xs new) (sym e) (prints-more (answer q (take n rows)) (answer q (row ∷ [])) old new p a)
 
 -- all rows were read
-pub printed-all : (told : Option (List (List Value))) (q : Asked) (n : ℕ) (printed : Printed) → PrintsSoFar q told n printed → IfSome told (λ rows. length rows ≡ n) → PrintsAnswer q told printed
+pub printed-all : (told : Option (List (List Value))) (q : Question) (n : ℕ) (printed : Printed) → PrintsSoFar q told n printed → IfSome told (λ rows. length rows ≡ n) → PrintsAnswer q told printed
 printed-all None q n printed p all = tt
 printed-all (Some rows) q n printed p all =
     let e : take n rows ≡ rows = ap (λ k. take k rows) (sym all) ∙ take-length rows in
     subst (λ (xs : List (List Value)). IsPrinted (answer q xs) printed) e p
 
 -- nothing was read yet
-pub printed-none : (told : Option (List (List Value))) (q : Asked) (printed : Printed) → printed.text ≡ [] → printed.rows ≡ 0 → PrintsSoFar q told 0 printed
+pub printed-none : (told : Option (List (List Value))) (q : Question) (printed : Printed) → printed.text ≡ [] → printed.rows ≡ 0 → PrintsSoFar q told 0 printed
 printed-none None q printed text rows = tt
 printed-none (Some list) q printed text rows = record { lines = text; count = rows }
 
 -- a row that a query answers over one row
-pub one_at_most : (q : Asked) (row : List Value) (old new : Printed) → Adds (answer q (row ∷ [])) old new → new.rows ≤ old.rows + 1
+pub one_at_most : (q : Question) (row : List Value) (old new : Printed) → Adds (answer q (row ∷ [])) old new → new.rows ≤ old.rows + 1
 one_at_most q row old new a = at_most (is_true (truth_at q.cond row)) a.count
   where
-    at_most : (b : Bool) → new.rows ≡ old.rows + length (map (picked q.columns) (cond b (row ∷ []) [])) → new.rows ≤ old.rows + 1
+    at_most : (b : Bool) → new.rows ≡ old.rows + length (map (projected q.columns) (cond b (row ∷ []) [])) → new.rows ≤ old.rows + 1
     at_most true e = omega arith
     at_most false e = omega arith

@@ -2,10 +2,10 @@
 use Rattle.std.specs.Prelude.{◌≡◌, ◌+◌, List, ◌++◌, length, Option, Some, None}
 use Rattle.std.specs.List.{flat_map}
 use Rattle.rx_value.specs.declared.values.Value.{Value}
-use Rattle.rx_forms.specs.Step.{Asked}
+use Rattle.rx_query.specs.Steps.{Question}
 use Rattle.rx_rows.specs.Lines.{line_of}
 use Rattle.rx_tool.specs.declared.printing.Printed.{Printed}
-use Rattle.rx_tool.specs.Answer.{answer}
+use Rattle.rx_rows.specs.Answer.{answer}
 
 -- the lines of these rows were added
 pub record Adds (rows : List (List Value)) (old new : Printed) : Type 0 where
@@ -18,6 +18,6 @@ pub record IsPrinted (rows : List (List Value)) (printed : Printed) : Type 0 whe
   pub count : printed.rows ≡ length rows
 
 -- the lines of what a query answers, where the rows are told
-abbrev pub PrintsAnswer : Asked → Option (List (List Value)) → Printed → Type 0
+abbrev pub PrintsAnswer : Question → Option (List (List Value)) → Printed → Type 0
 PrintsAnswer q None printed = Unit {0}
 PrintsAnswer q (Some rows) printed = IsPrinted (answer q rows) printed

@@ -4,8 +4,8 @@ use Rattle.std.specs.List.{concat}
 use Rattle.rx_value.specs.declared.values.Value.{Value}
 use Rattle.rx_value.specs.Counting.{Rose}
 use Rattle.rx_outside.specs.Sink.{Takes, IsFront, LeavesRoom}
-use Rattle.rx_forms.specs.Step.{Step}
-use Rattle.rx_tool.specs.declared.settings.Settings.{Settings}
+use Rattle.rx_query.specs.Steps.{Step}
+use Rattle.rx_query.specs.declared.settings.Settings.{Settings}
 use Rattle.rx_tool.specs.declared.engine.SelectFault.{SelectFault}
 use Rattle.rx_tool.specs.declared.engine.SelectFault.TheVariants.{ReadFault, WriteFault, Damaged, NoMemory}
 use Rattle.rx_tool.specs.Blocks.{blocks_of_step, blocks_from}

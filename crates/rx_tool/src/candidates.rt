@@ -1,4 +1,5 @@
 ghost use Rattle.std.specs.Prelude.{◌≡◌, ◌≤◌, ◌<◌, IfOk, length, map};
+ghost use Rattle.rx_value.specs.Limits.{most_rows};
 ghost use Rattle.rx_tool.specs.Candidates.{table_cost, candidates_of, cost_of, IsFirstLeast, visits};
 ghost use Rattle.rx_tool.specs.declared.candidates.Candidate.{Candidate as candidate_record};
 
@@ -6,14 +7,14 @@ use rx_store::Counts;
 use std::alloc::{AllocError, Global};
 
 /// How a candidate reads the rows.
-#[derive(Clone, Copy, Debug, PartialEq, Eq)]
+#[derive(Clone, Copy)]
 pub(crate) enum Kind {
     /// Every row, in the order of the ids.
     Table,
 }
 
 /// A way to answer a query, with its cost and the rows that it is taken to give.
-#[derive(Clone, Copy, Debug, PartialEq, Eq)]
+#[derive(Clone, Copy)]
 pub(crate) struct Candidate {
     pub kind: Kind,
     pub cost: u64,
@@ -23,7 +24,7 @@ pub(crate) struct Candidate {
 
 /// The cost of reading a table of so many rows.
 fn table_cost(rows: u64) -> u64
-    requires { rows ≤ 1000000 }
+    requires { rows ≤ most_rows }
     ensures { result ≡ table_cost rows }
 {
     20 * (1 + rows / 50) + 2 * rows
@@ -31,7 +32,7 @@ fn table_cost(rows: u64) -> u64
 
 /// The ways to answer a query over a table of so many rows, in order. The error is want of memory.
 pub(crate) fn candidates(alloc: Global, rows: u64) -> Result<Vec<Candidate>, AllocError>
-    requires { rows ≤ 1000000 }
+    requires { rows ≤ most_rows }
     ensures { IfOk result (λ v. v.items ≡ candidates_of rows) }
 {
     let mut all = Vec::new(alloc);

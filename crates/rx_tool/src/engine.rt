@@ -1,8 +1,9 @@
 ghost use Rattle.std.specs.Prelude.{◌≡◌, ◌≢◌, ◌≤◌, ℕ, true, Some, ◌<◌, ◌++◌, IfOk, IfErr, IfSome, OnOk, IsErrOf, length};
-ghost use Rattle.rx_store.specs.Tables.{Later, Caused, Keeps, with_rows, add_counts};
+ghost use Rattle.rx_store.specs.Tables.{Caused, Keeps, with_rows, add_counts};
 ghost use Rattle.rx_outside.specs.Causes.{Rose};
 ghost use Rattle.rx_outside.specs.Sink.{LeavesRoom};
-ghost use Rattle.rx_forms.specs.Step.{asked_of};
+ghost use Rattle.rx_query.specs.Steps.{question_of};
+ghost use Rattle.rx_value.specs.Limits.{most_rows};
 ghost use Rattle.rx_tool.specs.Printed.{PrintsAnswer};
 ghost use Rattle.rx_tool.specs.Select.{IsBlock, IsAnswerOf, TakesBlock, TakesFrontOfBlock, BlockIsCalm, BlockLeavesRoom, Untouched, table_fault, select_fault};
 ghost use Rattle.rx_tool.specs.Candidates.{visits, reads_of};
@@ -10,17 +11,17 @@ ghost use Rattle.rx_tool.specs.Blocks.{trace_of};
 ghost use Rattle.rx_tool.specs.Plan.{IsPlan};
 
 use crate::candidates::{Candidate, Kind, candidates, choose, visits};
-use crate::printing::{Printed, accept, print_footer};
-use crate::settings::Settings;
+use crate::printing::{Printed, print_if_selected};
 use crate::traces::{Traced, print_trace};
-use rx_forms::Query;
 use rx_outside::{Sink, write_all};
+use rx_query::{Query, Settings};
+use rx_rows::print_footer;
 use rx_store::{Counts, Table, TableFault};
 use rx_value::Bytes;
 use std::alloc::{AllocError, Global};
 
 /// Why a SELECT has no answer.
-#[derive(Debug, Drop)]
+#[derive(Drop)]
 pub(crate) enum SelectFault {
     ReadFault,
     WriteFault,
@@ -38,17 +39,15 @@ pub(crate) fn select<T: Table, O: Sink>(
     table: &mut T,
     out: &mut O,
 ) -> Result<(), SelectFault>
-    ensures block { OnOk result (TakesBlock settings number (asked_of query.now) (T.told table.old) (O.text out.old) (O.text out.new)) }
-    ensures counts { OnOk result (T.counted table.new ≡ add_counts (reads_of (T.row_count table.old)) (T.counted table.old)) }
-    ensures cause { IfErr result (λ f. IfSome (table_fault f) (Caused T.faults T.damages T.flawed T.sure table.old table.new)) }
+    ensures block { OnOk result (TakesBlock settings number (question_of query.now) (T.means table.old).rows (O.text out.old) (O.text out.new)) }
+    ensures counts { OnOk result ((T.tally table.new).counts ≡ add_counts (reads_of (T.means table.old).count) (T.tally table.old).counts) }
+    ensures cause { IfErr result (λ f. IfSome (table_fault f) (Caused T.means T.tally table.old table.new)) }
     ensures untouched { IfErr result (λ f. IfSome (table_fault f) (λ _. Untouched O.text O.faults O.room out.old out.new)) }
-    ensures write { IsErrOf result SelectFault.WriteFault → Rose (O.faults out.old) (O.faults out.new) × TakesFrontOfBlock settings number (asked_of query.now) (T.told table.old) (O.text out.old) (O.text out.new) }
-    ensures calm { BlockIsCalm settings number (asked_of query.now) (T.told table.old) (O.room out.old) (O.faults out.old) (O.faults out.new) }
-    ensures room { OnOk result (BlockLeavesRoom settings number (asked_of query.now) (T.told table.old) (O.room out.old) (O.room out.new)) }
-    ensures later { Later T.faults T.damages table.old table.new }
+    ensures write { IsErrOf result SelectFault.WriteFault → Rose (O.faults out.old) (O.faults out.new) × TakesFrontOfBlock settings number (question_of query.now) (T.means table.old).rows (O.text out.old) (O.text out.new) }
+    ensures calm { BlockIsCalm settings number (question_of query.now) (T.means table.old).rows (O.room out.old) (O.faults out.old) (O.faults out.new) }
+    ensures room { OnOk result (BlockLeavesRoom settings number (question_of query.now) (T.means table.old).rows (O.room out.old) (O.room out.new)) }
     ensures out_later { O.faults out.old ≤ O.faults out.new }
-    ensures sure { T.sure table.old ≡ true → T.faults table.new ≡ T.faults table.old }
-    ensures keeps { Keeps T.schema_of T.told T.row_count T.flawed T.sure T.kept table.old table.new }
+    ensures keeps { Keeps T.means T.tally T.kept table.old table.new }
     ensures spent { OnOk result (T.spent table.old table.new) }
 {
     let text = match block(alloc, number, query, settings, table) {
@@ -79,12 +78,10 @@ fn block<T: Table>(
     settings: Settings,
     table: &mut T,
 ) -> Result<Bytes, TableFault>
-    ensures told { IfOk result (IsBlock settings number (asked_of query.now) (T.told table.old)) }
-    ensures counts { OnOk result (T.counted table.new ≡ add_counts (reads_of (T.row_count table.old)) (T.counted table.old)) }
-    ensures cause { IfErr result (Caused T.faults T.damages T.flawed T.sure table.old table.new) }
-    ensures later { Later T.faults T.damages table.old table.new }
-    ensures sure { T.sure table.old ≡ true → T.faults table.new ≡ T.faults table.old }
-    ensures keeps { Keeps T.schema_of T.told T.row_count T.flawed T.sure T.kept table.old table.new }
+    ensures told { IfOk result (IsBlock settings number (question_of query.now) (T.means table.old).rows) }
+    ensures counts { OnOk result ((T.tally table.new).counts ≡ add_counts (reads_of (T.means table.old).count) (T.tally table.old).counts) }
+    ensures cause { IfErr result (Caused T.means T.tally table.old table.new) }
+    ensures keeps { Keeps T.means T.tally T.kept table.old table.new }
     ensures spent { OnOk result (T.spent table.old table.new) }
 {
     let rows = table.rows();
@@ -112,7 +109,7 @@ struct Plan {
 
 // The plan of a query over a table of so many rows. The error is want of memory.
 fn make_plan(alloc: Global, rows: u64) -> Result<Plan, AllocError>
-    requires { rows ≤ 1000000 }
+    requires { rows ≤ most_rows }
     ensures { IfOk result (IsPlan rows) }
 {
     let all = candidates(alloc, rows)?;
@@ -133,12 +130,10 @@ fn run_plan<T: Table>(
     query: &Query,
     table: &mut T,
 ) -> Result<Bytes, TableFault>
-    ensures told { IfOk result (IsAnswerOf kind (asked_of query.now) (T.told table.old)) }
-    ensures counts { OnOk result (T.counted table.new ≡ add_counts (visits kind (T.row_count table.old)) (T.counted table.old)) }
-    ensures cause { IfErr result (Caused T.faults T.damages T.flawed T.sure table.old table.new) }
-    ensures later { Later T.faults T.damages table.old table.new }
-    ensures sure { T.sure table.old ≡ true → T.faults table.new ≡ T.faults table.old }
-    ensures keeps { Keeps T.schema_of T.told T.row_count T.flawed T.sure T.kept table.old table.new }
+    ensures told { IfOk result (IsAnswerOf kind (question_of query.now) (T.means table.old).rows) }
+    ensures counts { OnOk result ((T.tally table.new).counts ≡ add_counts (visits kind (T.means table.old).count) (T.tally table.old).counts) }
+    ensures cause { IfErr result (Caused T.means T.tally table.old table.new) }
+    ensures keeps { Keeps T.means T.tally T.kept table.old table.new }
     ensures spent { OnOk result (T.spent table.old table.new) }
 {
     let Printed { mut text, rows } = match kind {
@@ -180,12 +175,10 @@ fn print_answer<T: Table>(
     query: &Query,
     table: &mut T,
 ) -> Result<Printed, TableFault>
-    ensures told { IfOk result (PrintsAnswer (asked_of query.now) (T.told table.old)) }
-    ensures counts { OnOk result (T.counted table.new ≡ with_rows (T.row_count table.old) (T.counted table.old)) }
-    ensures cause { IfErr result (Caused T.faults T.damages T.flawed T.sure table.old table.new) }
-    ensures later { Later T.faults T.damages table.old table.new }
-    ensures sure { T.sure table.old ≡ true → T.faults table.new ≡ T.faults table.old }
-    ensures keeps { Keeps T.schema_of T.told T.row_count T.flawed T.sure T.kept table.old table.new }
+    ensures told { IfOk result (PrintsAnswer (question_of query.now) (T.means table.old).rows) }
+    ensures counts { OnOk result ((T.tally table.new).counts ≡ with_rows (T.means table.old).count (T.tally table.old).counts) }
+    ensures cause { IfErr result (Caused T.means T.tally table.old table.new) }
+    ensures keeps { Keeps T.means T.tally T.kept table.old table.new }
     ensures spent { OnOk result (T.spent table.old table.new) }
 {
     let mut printed = Printed {
@@ -197,7 +190,7 @@ fn print_answer<T: Table>(
             Ok(row) => row,
             Err(fault) => return Err(fault),
         };
-        let Ok(()) = accept(alloc, query, &row, &mut printed) else {
+        let Ok(()) = print_if_selected(query, &row, &mut printed) else {
             return Err(TableFault::NoMemory);
         };
     }

@@ -3,14 +3,14 @@
 
 mod candidates;
 mod engine;
-mod inputs;
+mod laws;
 mod printing;
 mod scripts;
-mod settings;
 mod stops;
 mod tool;
 mod traces;
 mod words;
 
-pub use stops::Status;
+pub use laws::{answers_are_bags, counts_are_sums, first_of_least_cost_is_chosen};
+pub use stops::{Status, out_of_memory, refuse_words};
 pub use tool::{Ran, run};

@@ -1,14 +1,13 @@
-ghost use Rattle.std.specs.Prelude.{◌≡◌, ◌<◌, ◌++◌, ◌∷◌, [], OnOk};
-ghost use Rattle.rx_forms.specs.Step.{asked_of};
-ghost use Rattle.rx_tool.specs.Answer.{answer, footer_of};
+ghost use Rattle.std.specs.Prelude.{◌≡◌, ◌<◌, ◌∷◌, [], OnOk};
+ghost use Rattle.rx_value.specs.Limits.{most_rows};
+ghost use Rattle.rx_query.specs.Steps.{question_of};
+ghost use Rattle.rx_rows.specs.Answer.{answer};
 ghost use Rattle.rx_tool.specs.Printed.{Adds};
 
-use itoa::Buffer;
-use rx_cond::{Tri, truth};
-use rx_forms::Query;
-use rx_rows::{pick, print_row};
+use rx_query::Query;
+use rx_rows::{is_selected, print_projected, project};
 use rx_value::{Bytes, Row};
-use std::alloc::{AllocError, Global};
+use std::alloc::AllocError;
 
 /// The lines of output rows, and how many they are.
 #[derive(Drop)]
@@ -17,32 +16,19 @@ pub(crate) struct Printed {
     pub rows: u64,
 }
 
-/// Adds the line of a row where the query accepts it. The error is want of memory.
-pub(crate) fn accept(
-    alloc: Global,
+/// Adds the line of a row where the query selects it. The error is want of memory.
+pub(crate) fn print_if_selected(
     query: &Query,
     row: &Row,
     printed: &mut Printed,
 ) -> Result<(), AllocError>
-    requires { printed.old.rows < 1000000 }
-    ensures { OnOk result (Adds (answer (asked_of query.now) (row.now ∷ [])) printed.old printed.new) }
+    requires { printed.old.rows < most_rows }
+    ensures { OnOk result (Adds (answer (question_of query.now) (row.now ∷ [])) printed.old printed.new) }
 {
-    match truth(&query.cond, row) {
-        Tri::T => {
-            let chosen = pick(alloc, row, query.columns.as_slice())?;
-            print_row(&chosen, &mut printed.text)?;
-            printed.rows += 1;
-            Ok(())
-        }
-        _ => Ok(()),
+    if !is_selected(&query.cond, row) {
+        return Ok(());
     }
-}
-
-/// Adds the line that closes a block: how many rows it has.
-pub(crate) fn print_footer(rows: u64, into: &mut Bytes) -> Result<(), AllocError>
-    ensures { OnOk result (into.new ≡ into.old ++ footer_of rows) }
-{
-    into.append(b"\\. ")?;
-    into.append(Buffer::new().format(rows).as_bytes())?;
-    into.push(b'\n')
+    print_projected(&project(query.columns.as_slice(), row), &mut printed.text)?;
+    printed.rows += 1;
+    Ok(())
 }

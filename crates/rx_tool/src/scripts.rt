@@ -1,14 +1,14 @@
 ghost use Rattle.std.specs.Prelude.{◌≡◌, ◌≢◌, ◌≤◌, ℕ, true, Some, IfOk, IfErr, IfSome, OnOk, OnErr, map, length};
-ghost use Rattle.rx_store.specs.Tables.{Later, Caused, Keeps};
-ghost use Rattle.rx_forms.specs.Step.{step_of};
-ghost use Rattle.rx_tool.specs.Blocks.{first_settings, settings_after, counts_after, counts_after_step};
+ghost use Rattle.rx_store.specs.Tables.{Caused, Keeps};
+ghost use Rattle.rx_query.specs.Steps.{step_of};
+ghost use Rattle.rx_query.specs.Settings.{default_settings, settings_after};
+ghost use Rattle.rx_tool.specs.Blocks.{counts_after, counts_after_step};
 ghost use Rattle.rx_tool.specs.Running.{RunsStep, RunsScript, StopsStep, StopsScript, StepIsCalm, StepLeavesRoom, ScriptIsCalm};
 ghost use Rattle.rx_tool.specs.Select.{table_fault};
 
 use crate::engine::{SelectFault, select};
-use crate::settings::Settings;
-use rx_forms::{Numbered, Script, Statement};
 use rx_outside::Sink;
+use rx_query::{Numbered, Script, Settings, Statement};
 use rx_store::Table;
 use std::alloc::Global;
 
@@ -19,15 +19,13 @@ pub(crate) fn run_script<T: Table, O: Sink>(
     table: &mut T,
     out: &mut O,
 ) -> Result<(), SelectFault>
-    ensures whole { OnOk result (RunsScript (T.told table.old) first_settings (map step_of script.now) (O.text out.old) (O.text out.new)) }
-    ensures counts { OnOk result (T.counted table.new ≡ counts_after (T.row_count table.old) (map step_of script.now) (T.counted table.old)) }
-    ensures stopped { IfErr result (StopsScript (T.told table.old) first_settings (map step_of script.now) (O.text out.old) (O.text out.new) (O.faults out.old) (O.faults out.new)) }
-    ensures cause { IfErr result (λ f. IfSome (table_fault f) (Caused T.faults T.damages T.flawed T.sure table.old table.new)) }
-    ensures later { Later T.faults T.damages table.old table.new }
-    ensures calm { ScriptIsCalm (T.told table.old) first_settings (map step_of script.now) (O.room out.old) (O.faults out.old) (O.faults out.new) }
+    ensures whole { OnOk result (RunsScript (T.means table.old).rows default_settings (map step_of script.now) (O.text out.old) (O.text out.new)) }
+    ensures counts { OnOk result ((T.tally table.new).counts ≡ counts_after (T.means table.old).count (map step_of script.now) (T.tally table.old).counts) }
+    ensures stopped { IfErr result (StopsScript (T.means table.old).rows default_settings (map step_of script.now) (O.text out.old) (O.text out.new) (O.faults out.old) (O.faults out.new)) }
+    ensures cause { IfErr result (λ f. IfSome (table_fault f) (Caused T.means T.tally table.old table.new)) }
+    ensures calm { ScriptIsCalm (T.means table.old).rows default_settings (map step_of script.now) (O.room out.old) (O.faults out.old) (O.faults out.new) }
     ensures out_later { O.faults out.old ≤ O.faults out.new }
-    ensures sure { T.sure table.old ≡ true → T.faults table.new ≡ T.faults table.old }
-    ensures keeps { Keeps T.schema_of T.told T.row_count T.flawed T.sure T.kept table.old table.new }
+    ensures keeps { Keeps T.means T.tally T.kept table.old table.new }
     ensures spent { OnOk result (T.spent table.old table.new) }
 {
     let mut settings = Settings::new();
@@ -49,16 +47,14 @@ fn run_statement<T: Table, O: Sink>(
     out: &mut O,
 ) -> Result<Settings, SelectFault>
     ensures settings { IfOk result (λ s. s ≡ settings_after settings (step_of numbered.now)) }
-    ensures whole { OnOk result (RunsStep (T.told table.old) settings (step_of numbered.now) (O.text out.old) (O.text out.new)) }
-    ensures counts { OnOk result (T.counted table.new ≡ counts_after_step (T.row_count table.old) (step_of numbered.now) (T.counted table.old)) }
-    ensures stopped { IfErr result (StopsStep (T.told table.old) settings (step_of numbered.now) (O.text out.old) (O.text out.new) (O.faults out.old) (O.faults out.new)) }
-    ensures cause { IfErr result (λ f. IfSome (table_fault f) (Caused T.faults T.damages T.flawed T.sure table.old table.new)) }
-    ensures later { Later T.faults T.damages table.old table.new }
-    ensures calm { StepIsCalm (T.told table.old) settings (step_of numbered.now) (O.room out.old) (O.faults out.old) (O.faults out.new) }
-    ensures room { OnOk result (StepLeavesRoom (T.told table.old) settings (step_of numbered.now) (O.room out.old) (O.room out.new)) }
+    ensures whole { OnOk result (RunsStep (T.means table.old).rows settings (step_of numbered.now) (O.text out.old) (O.text out.new)) }
+    ensures counts { OnOk result ((T.tally table.new).counts ≡ counts_after_step (T.means table.old).count (step_of numbered.now) (T.tally table.old).counts) }
+    ensures stopped { IfErr result (StopsStep (T.means table.old).rows settings (step_of numbered.now) (O.text out.old) (O.text out.new) (O.faults out.old) (O.faults out.new)) }
+    ensures cause { IfErr result (λ f. IfSome (table_fault f) (Caused T.means T.tally table.old table.new)) }
+    ensures calm { StepIsCalm (T.means table.old).rows settings (step_of numbered.now) (O.room out.old) (O.faults out.old) (O.faults out.new) }
+    ensures room { OnOk result (StepLeavesRoom (T.means table.old).rows settings (step_of numbered.now) (O.room out.old) (O.room out.new)) }
     ensures out_later { O.faults out.old ≤ O.faults out.new }
-    ensures sure { T.sure table.old ≡ true → T.faults table.new ≡ T.faults table.old }
-    ensures keeps { Keeps T.schema_of T.told T.row_count T.flawed T.sure T.kept table.old table.new }
+    ensures keeps { Keeps T.means T.tally T.kept table.old table.new }
     ensures spent { OnOk result (T.spent table.old table.new) }
 {
     match &numbered.statement {

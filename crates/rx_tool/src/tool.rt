@@ -1,22 +1,22 @@
-ghost use Rattle.std.specs.Prelude.{◌≡◌, ◌≢◌, ◌≤◌, ℕ, None, IsSomeAnd, IfOk, IfErr, OnOk, map, string_bytes};
+ghost use Rattle.std.specs.Prelude.{◌≡◌, ◌≤◌, IfOk, IfErr, OnOk, map, string_bytes};
 ghost use Rattle.rx_outside.specs.Files.{KeepsFiles};
-ghost use Rattle.rx_tool.specs.Output.{output, TakesText, HandsBack, HasRoomForText, HasRoomForLine};
-ghost use Rattle.rx_tool.specs.Words.{command_of};
-ghost use Rattle.rx_tool.specs.Ending.{StopsRun, StopsScriptRun, EndsRefused, EndsOutside, EndsWithoutMemory, IsComplete};
 ghost use Rattle.rx_store.specs.Stored.{IsStorable};
-ghost use Rattle.rx_inputs.specs.Checked.Checked.{Accepts};
+ghost use Rattle.rx_inputs.specs.Files.{named};
 ghost use Rattle.rx_inputs.specs.Faults.{held};
-ghost use Rattle.rx_tool.specs.Asking.{IsSureOf, IsRefusalOfWords};
+ghost use Rattle.rx_tool.specs.Blocks.{blocks_of};
+ghost use Rattle.rx_tool.specs.Running.{PutsAll, HasRoom, size_of};
+ghost use Rattle.rx_tool.specs.Seen.{files_seen, sink_seen, outside};
+ghost use Rattle.rx_tool.specs.Owes.{owed, select_owes, table_after};
+ghost use Rattle.rx_tool.specs.Ending.{IsRun};
+ghost use Rattle.rx_tool.specs.Work.{IsWork, StopsScriptRun};
 
 use crate::engine::SelectFault;
-use crate::inputs::read_command;
 use crate::scripts::run_script;
 use crate::stops::{Status, Stop, tell};
-use crate::words::command_of;
-use rx_inputs::Inputs;
+use crate::words::{Command, command_of};
+use rx_inputs::{FileNames, Inputs, read_inputs};
 use rx_outside::{Files, Sink};
 use rx_store::MemTable;
-use rx_value::Bytes;
 use std::alloc::Global;
 
 /// How a run ended, and what it hands back.
@@ -40,30 +40,15 @@ pub fn run<F: Files, O: Sink, E: Sink>(
     out: &mut O,
     err: &mut E,
 ) -> Ran<F>
-    // Done: the whole text of the words and files is on `out`, nothing on `err`, and the table was read as defined.
-    ensures text { result.status ≡ Status.Done → TakesText (output (map string_bytes words.now) (F.told files)) (O.text out.old) (O.text out.new) }
-    ensures quiet { result.status ≡ Status.Done → E.text err.new ≡ E.text err.old }
-    ensures first { result.status ≡ Status.Done → IsSomeAnd result.first (HandsBack (output (map string_bytes words.now) (F.told files))) }
+    // The run of what these words owe over what the files tell.
+    ensures run { IsRun (owed (map string_bytes words.now) (F.told files))
+        (outside (files_seen F.told F.sure F.taken F.faults files) (sink_seen O.text O.faults O.room out.old) (sink_seen E.text E.faults E.room err.old))
+        (outside (files_seen F.told F.sure F.taken F.faults result.files) (sink_seen O.text O.faults O.room out.new) (sink_seen E.text E.faults E.room err.new))
+        result.status result.first result.second }
 
-    // Every other status has its cause and its line.
-    ensures refused { result.status ≡ Status.Refused → EndsRefused (output (map string_bytes words.now) (F.told files)) (O.text out.old) (O.text out.new) (E.text err.old) (E.text err.new) }
-    ensures outside { result.status ≡ Status.Outside → EndsOutside (output (map string_bytes words.now) (F.told files)) (F.faults files) (F.faults result.files) (O.faults out.old) (O.faults out.new) (E.faults err.old) (E.faults err.new) (O.text out.old) (O.text out.new) (E.text err.old) (E.text err.new) }
-    ensures no_memory { result.status ≡ Status.NoMemory → EndsWithoutMemory (output (map string_bytes words.now) (F.told files)) (O.text out.old) (O.text out.new) (E.text err.old) (E.text err.new) }
-    ensures no_first { result.status ≢ Status.Done → result.first ≡ None }
-    ensures no_second { result.second ≡ None }
-
-    // Accepted inputs are done or memory ran out, unless a count of faults rose; and none rises where no read can
-    // fail and there is room for the text and the line.
-    ensures complete { IsComplete (output (map string_bytes words.now) (F.told files)) (F.faults files) (F.faults result.files) (O.faults out.old) (O.faults out.new) (E.faults err.old) (E.faults err.new) result.status }
-    ensures sure { IsSureOf (F.sure files) (command_of (map string_bytes words.now)) → F.faults result.files ≡ F.faults files }
-    ensures calm { HasRoomForText (output (map string_bytes words.now) (F.told files)) (O.room out.old) → O.faults out.new ≡ O.faults out.old }
-    ensures err_calm { HasRoomForLine (output (map string_bytes words.now) (F.told files)) (E.room err.old) → E.faults err.new ≡ E.faults err.old }
-
-    // The files stay as they were, and no count of faults falls.
+    // Where it is done, `err` wasn't called; and the files stay as they were.
+    ensures quiet { result.status ≡ Status.Done → err.new ≡ err.old }
     ensures keeps { KeepsFiles F.told F.sure F.room files result.files }
-    ensures later { F.faults files ≤ F.faults result.files }
-    ensures out_later { O.faults out.old ≤ O.faults out.new }
-    ensures err_later { E.faults err.old ≤ E.faults err.new }
 {
     let mut files = files;
     match work(alloc, words, &mut files, out) {
@@ -85,49 +70,48 @@ pub fn run<F: Files, O: Sink, E: Sink>(
     }
 }
 
-// Reads the files, runs the script, and answers the table on which it ran.
+// Carries out the command of the words, and answers the table on which it ran.
 fn work<F: Files, O: Sink>(
     alloc: Global,
     words: &[String],
     files: &mut F,
     out: &mut O,
 ) -> Result<MemTable, Stop>
-    ensures text { OnOk result (TakesText (output (map string_bytes words.now) (F.told files.old)) (O.text out.old) (O.text out.new)) }
-    ensures table { IfOk result (HandsBack (output (map string_bytes words.now) (F.told files.old))) }
-    ensures stopped { IfErr result (StopsRun (output (map string_bytes words.now) (F.told files.old)) (F.faults files.old) (F.faults files.new) (O.faults out.old) (O.faults out.new) (O.text out.old) (O.text out.new)) }
-    ensures sure { IsSureOf (F.sure files.old) (command_of (map string_bytes words.now)) → F.faults files.new ≡ F.faults files.old }
-    ensures calm { HasRoomForText (output (map string_bytes words.now) (F.told files.old)) (O.room out.old) → O.faults out.new ≡ O.faults out.old }
+    ensures work { IsWork (owed (map string_bytes words.now) (F.told files.old)) (files_seen F.told F.sure F.taken F.faults files.old) (files_seen F.told F.sure F.taken F.faults files.new) (sink_seen O.text O.faults O.room out.old) (sink_seen O.text O.faults O.room out.new) result }
     ensures keeps { KeepsFiles F.told F.sure F.room files.old files.new }
-    ensures later { F.faults files.old ≤ F.faults files.new }
-    ensures out_later { O.faults out.old ≤ O.faults out.new }
 {
-    let Some(asked) = command_of(words) else {
-        return Err(refused_words(alloc));
+    let Some(command) = command_of(words) else {
+        return Err(Stop::Words);
     };
-    let read = match read_command(alloc, files, &asked) {
-        Ok(read) => read,
-        Err(stop) => return Err(stop),
-    };
-    run_inputs(alloc, read, out)
+    match command {
+        Command::Select(names) => run_select(alloc, files, &names, out),
+    }
 }
 
-// The refusal of words that are no command, or want of memory where there was none for its line.
-fn refused_words(alloc: Global) -> Stop
-    ensures { IsRefusalOfWords result }
+// Reads the schema, the data and the script, and runs the script over the table.
+fn run_select<F: Files, O: Sink>(
+    alloc: Global,
+    files: &mut F,
+    names: &FileNames<'_>,
+    out: &mut O,
+) -> Result<MemTable, Stop>
+    ensures work { IsWork (select_owes (F.told files.old) (named names.now)) (files_seen F.told F.sure F.taken F.faults files.old) (files_seen F.told F.sure F.taken F.faults files.new) (sink_seen O.text O.faults O.room out.old) (sink_seen O.text O.faults O.room out.new) result }
+    ensures keeps { KeepsFiles F.told F.sure F.room files.old files.new }
 {
-    match Bytes::of(alloc, b"refused: words\n") {
-        Ok(line) => Stop::Refused(line),
-        Err(_) => Stop::NoMemory,
-    }
+    let read = match read_inputs(alloc, files, names) {
+        Ok(read) => read,
+        Err(fault) => return Err(Stop::of(fault)),
+    };
+    run_inputs(alloc, read, out)
 }
 
 // Runs the script of the inputs over their table.
 fn run_inputs<O: Sink>(alloc: Global, read: Inputs, out: &mut O) -> Result<MemTable, Stop>
     requires { IsStorable read.schema read.rows }
-    ensures text { OnOk result (TakesText (Accepts (held read)) (O.text out.old) (O.text out.new)) }
-    ensures table { IfOk result (HandsBack (Accepts (held read))) }
-    ensures stopped { IfErr result (StopsScriptRun (held read) (O.faults out.old) (O.faults out.new) (O.text out.old) (O.text out.new)) }
-    ensures calm { HasRoomForText (Accepts (held read)) (O.room out.old) → O.faults out.new ≡ O.faults out.old }
+    ensures text { OnOk result (PutsAll (blocks_of (held read).steps (held read).rows) (O.text out.old) (O.text out.new)) }
+    ensures table { IfOk result (λ table. table ≡ table_after (held read)) }
+    ensures stopped { IfErr result (StopsScriptRun (held read) (sink_seen O.text O.faults O.room out.old) (sink_seen O.text O.faults O.room out.new)) }
+    ensures calm { HasRoom (O.room out.old) (size_of (blocks_of (held read).steps (held read).rows)) → O.faults out.new ≡ O.faults out.old }
     ensures out_later { O.faults out.old ≤ O.faults out.new }
 {
     let Inputs {

@@ -1,19 +1,17 @@
 ghost use Rattle.std.specs.Prelude.{◌≡◌, Bool, map, option_map, string_bytes};
-ghost use Rattle.rx_tool.specs.Words.{is_operand, command_of, command};
+ghost use Rattle.rx_tool.specs.Words.{is_operand, task_of, task};
+
+use rx_inputs::FileNames;
 
 /// What the words ask for, with the names of its files.
-#[derive(Clone, Copy, Debug)]
+#[derive(Clone, Copy)]
 pub(crate) enum Command<'a> {
-    Select {
-        schema: &'a str,
-        data: &'a str,
-        script: &'a str,
-    },
+    Select(FileNames<'a>),
 }
 
 /// The command of the words, where they are in its form.
 pub(crate) fn command_of(words: &[String]) -> Option<Command<'_>>
-    ensures { option_map command result ≡ command_of (map string_bytes words.now) }
+    ensures { option_map task result ≡ task_of (map string_bytes words.now) }
 {
     match words {
         [name, schema, data, script] => {
@@ -22,11 +20,11 @@ pub(crate) fn command_of(words: &[String]) -> Option<Command<'_>>
                 && is_operand(data.as_str())
                 && is_operand(script.as_str())
             {
-                Some(Command::Select {
+                Some(Command::Select(FileNames {
                     schema: schema.as_str(),
                     data: data.as_str(),
                     script: script.as_str(),
-                })
+                }))
             } else {
                 None
             }

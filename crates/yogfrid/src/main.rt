@@ -1,9 +1,8 @@
 //! The command line program: it carries out its words by the system's files and streams.
 #![tactic(auto)]
 
-use rx_outside::write_all;
 use rx_real::{RealErr, RealFiles, RealOut};
-use rx_tool::run;
+use rx_tool::{out_of_memory, refuse_words, run};
 use std::alloc::Global;
 use std::env;
 use std::io::ErrorKind;
@@ -36,14 +35,11 @@ fn main(rt: HostRuntime) -> ExitCode {
     let words = match words_of(alloc, &rt) {
         Ok(words) => words,
         Err(unread) => {
-            let (line, status): (&[u8], u8) = match unread {
-                Unread::NotText => (b"refused: words\n", 2),
-                Unread::NoMemory => (b"out of memory\n", 3),
+            let status = match unread {
+                Unread::NotText => refuse_words(&mut err),
+                Unread::NoMemory => out_of_memory(&mut err),
             };
-            return match write_all(&mut err, line) {
-                Ok(()) => ExitCode::from(status),
-                Err(_) => ExitCode::from(1),
-            };
+            return ExitCode::from(status as u8);
         }
     };
     let ran = run(

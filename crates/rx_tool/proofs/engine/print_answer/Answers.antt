@@ -1,6 +1,6 @@
-use Rattle.std.proofs.Common.{arith, ◌∙◌}
-use Rattle.rx_store.proofs.Chains.{Keeps-chain, Later-chain, with_rows-more}
-use Rattle.rx_forms.specs.Step.{asked_of}
+use Rattle.std.proofs.Common.{arith}
+use Rattle.rx_store.proofs.Chains.{Keeps-chain, with_rows-more}
+use Rattle.rx_query.specs.Steps.{question_of}
 use Rattle.rx_tool.proofs.Scanning.{printed-more, one_at_most}
 use Rattle.rx_tool.proofs.engine.print_answer.Goals as goal
 
@@ -8,11 +8,9 @@ pub loop-id-preserved : goal.loop-id-preserved
 loop-id-preserved g c =
     let here = c.loop-id.invariant in
     record {
-      printed = printed-more _ (asked_of c.args.query.now) c.loop-id.id c.in-Ok.row c.loop-id.printed c.accept.new.printed here.printed (rw here.keeps.told_stays at c.in-Ok.ensures.told) c.in-Ok-accept.ensures;
-      few = omega (arith, here.few, one_at_most (asked_of c.args.query.now) c.in-Ok.row c.loop-id.printed c.accept.new.printed c.in-Ok-accept.ensures);
+      printed = printed-more _ (question_of c.args.query.now) c.loop-id.id c.in-Ok.row c.loop-id.printed c.print_if_selected.new.printed here.printed (rw here.keeps.means_stays at c.in-Ok.ensures.told) c.in-Ok-print_if_selected.ensures;
+      few = omega (arith, here.few, one_at_most (question_of c.args.query.now) c.in-Ok.row c.loop-id.printed c.print_if_selected.new.printed c.in-Ok-print_if_selected.ensures);
       counts = with_rows-more c.loop-id.id _ _ _ here.counts c.in-Ok.ensures.counts;
-      later = Later-chain _ _ _ here.later c.row.ensures.later;
-      sure = λ e. c.row.ensures.sure (here.keeps.sure_stays ∙ e) ∙ here.sure e;
       keeps = Keeps-chain g.met.T.Table.kept_chain _ _ _ here.keeps c.row.ensures.keeps;
       spent = g.met.T.Table.spent_chain _ _ _ here.spent c.in-Ok.ensures.spent;
     }

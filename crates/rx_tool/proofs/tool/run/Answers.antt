@@ -1,8 +1,28 @@
-use Rattle.rx_tool.proofs.Ends.{ends_outside, line_has_room}
+use Rattle.std.proofs.Common.{map}
+use Rattle.std.specs.Prelude.{string_bytes}
+use Rattle.rx_tool.specs.Seen.{files_seen, sink_seen, outside}
+use Rattle.rx_tool.specs.Owes.{owed}
+use Rattle.rx_tool.proofs.Ends.{stopped_ends, stopped_hands, stopped_complete, line_has_room}
 use Rattle.rx_tool.proofs.tool.run.Goals as goal
 
-pub returns-in-Err-clause-outside : goal.returns-in-Err-clause-outside
-returns-in-Err-clause-outside g c = λ is. ends_outside _ _ _ _ _ _ _ _ _ _ _ c.in-Err.stop _ c.in-Err.ensures.stopped c.tell-status.ensures.told is
-
-pub returns-in-Err-clause-err_calm : goal.returns-in-Err-clause-err_calm
-returns-in-Err-clause-err_calm g c = λ h. c.tell-status.ensures.calm (line_has_room _ _ _ _ _ _ _ _ c.in-Err.stop c.in-Err.ensures.stopped h)
+pub returns-in-Err-clause-run : goal.returns-in-Err-clause-run
+returns-in-Err-clause-run g c =
+    let owes = owed (map string_bytes c.args.words.now) (g.F.Files.told c.args.files) in
+    let old = outside (files_seen g.F.Files.told g.F.Files.sure g.F.Files.taken g.F.Files.faults c.args.files) (sink_seen g.O.Sink.text g.O.Sink.faults g.O.Sink.room c.args.out.now) (sink_seen g.E.Sink.text g.E.Sink.faults g.E.Sink.room c.args.err.now) in
+    let new = outside (files_seen g.F.Files.told g.F.Files.sure g.F.Files.taken g.F.Files.faults c.work.new.files) (sink_seen g.O.Sink.text g.O.Sink.faults g.O.Sink.room c.work.new.out) (sink_seen g.E.Sink.text g.E.Sink.faults g.E.Sink.room c.tell-status.new.err) in
+    let stop = c.in-Err.stop in
+    let work = c.in-Err.ensures.work in
+    let told = c.tell-status.ensures.told in
+    record {
+      ends = stopped_ends owes.outcome old new stop c.tell-status.result work.ends told;
+      tables = stopped_hands owes old.err new.err stop c.tell-status.result told;
+      complete = stopped_complete owes.outcome old new stop c.tell-status.result work.ends told;
+      sure = work.sure;
+      calm = work.calm;
+      err_calm = λ h. c.tell-status.ensures.calm (line_has_room owes.outcome old.files.faults new.files.faults old.out new.out old.err.room stop work.ends h);
+      err_no_fault = c.tell-status.ensures.no_fault;
+      taken = work.taken;
+      files_later = work.files_later;
+      out_later = work.out_later;
+      err_later = c.tell-status.ensures.later;
+    }

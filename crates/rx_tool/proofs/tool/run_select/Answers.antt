@@ -1,0 +1,22 @@
+use Rattle.rx_inputs.specs.Faults.{held}
+use Rattle.rx_inputs.specs.Files.{named, held_by}
+use Rattle.rx_inputs.specs.Reads.{files_read}
+use Rattle.rx_tool.specs.Seen.{sink_seen}
+use Rattle.rx_tool.proofs.Owed.{script_ends, calm_accepted}
+use Rattle.rx_tool.proofs.tool.run_select.Goals as goal
+
+pub returns-clause-work : goal.returns-clause-work
+returns-clause-work g c =
+    let told = g.F.Files.told c.args.files.now in
+    let names = named c.args.names.now in
+    let read = held c.in-Ok.read in
+    let old = sink_seen g.O.Sink.text g.O.Sink.faults g.O.Sink.room c.args.out.now in
+    let new = sink_seen g.O.Sink.text g.O.Sink.faults g.O.Sink.room c.run_inputs.new.out in
+    record {
+      ends = script_ends (files_read told names) (held_by told names) read (g.F.Files.faults c.args.files.now) (g.F.Files.faults c.read_inputs.new.files) old new c.run_inputs.result c.in-Ok.ensures.accepted c.run_inputs.ensures.text c.run_inputs.ensures.table c.run_inputs.ensures.stopped;
+      sure = c.read_inputs.ensures.sure;
+      calm = calm_accepted (held_by told names) read old.room old.faults new.faults c.in-Ok.ensures.accepted c.run_inputs.ensures.calm;
+      taken = c.read_inputs.ensures.taken;
+      files_later = c.read_inputs.ensures.later;
+      out_later = c.run_inputs.ensures.out_later;
+    }
