@@ -8,7 +8,7 @@ use Rattle.rx_level.specs.Step.{Owns, Step, Lent}
 use Rattle.rx_level.proofs.Steps.{then, held_there}
 use Rattle.rx_level.proofs.Lending.{lent_held, lent_after}
 use Rattle.rx_graft.specs.Made.{Made, Adds, handles_of}
-use Rattle.rx_graft.proofs.Listed.{owed-append, owed_handles, append_none}
+use Rattle.rx_graft.proofs.ListedLinks.{owed-append, owed_handles, append_none}
 
 step_same : (s : Slab Node) → IsSound s [] → Step s s [] []
 step_same s sound = record { sound = sound; held = λ m. refl; keeps = λ m more. refl }

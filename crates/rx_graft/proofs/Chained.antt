@@ -1,7 +1,8 @@
 -- What two levels have in common, where the one's whole items go as far down as the other.
 use Rattle.std.proofs.Common.{◌≡◌, ◌||◌, ◌+◌, ◌<◌, ◌≤◌, max, arith, ℕ, zero, suc, Bool, true, false, not, cond, List, [], ◌∷◌, length, refl, ap, ap₂, sym, ◌∙◌}
 use Rattle.rx_value.specs.declared.order.Span.{Span}
-use Rattle.rx_tree.specs.Tree.{Level, is_whole, level_constrains}
+use Rattle.rx_value.specs.Spans.{is_whole_span}
+use Rattle.rx_tree.specs.Tree.{Level, level_constrains}
 use Rattle.rx_tree.specs.Tree.Level.{end, item}
 use Rattle.rx_tree.specs.Canonical.{ArePlaced, IsCanonicalLevel}
 use Rattle.rx_tree.specs.Meet.{both}
@@ -11,10 +12,10 @@ use Rattle.rx_graft.specs.Hang.{hung, depth_of, chain}
 use Rattle.rx_graft.proofs.Grafting.{kept_items, first_free, one_whole, child_constrains, rest_constrains}
 
 -- the list of a level of one whole item
-pub chain_whole : (n : Bool) (ns : List Bool) (t : Span) (d rest : Level) → is_whole n t ≡ true → rest ≡ end → chain (n ∷ ns) (item t d rest) ≡ d ∷ chain ns d
+pub chain_whole : (n : Bool) (ns : List Bool) (t : Span) (d rest : Level) → is_whole_span n t ≡ true → rest ≡ end → chain (n ∷ ns) (item t d rest) ≡ d ∷ chain ns d
 chain_whole n ns t d rest whole alone = ap (λ r. chain (n ∷ ns) (item t d r)) alone ∙ ap (λ b. cond b (d ∷ chain ns d) []) whole
 
-pub chain_narrow : (n : Bool) (ns : List Bool) (t : Span) (d : Level) → is_whole n t ≡ false → chain (n ∷ ns) (item t d end) ≡ []
+pub chain_narrow : (n : Bool) (ns : List Bool) (t : Span) (d : Level) → is_whole_span n t ≡ false → chain (n ∷ ns) (item t d end) ≡ []
 chain_narrow n ns t d narrow = ap (λ b. cond b (d ∷ chain ns d) []) narrow
 
 -- what hangs below each item of a level, where that is so of its children
@@ -81,8 +82,8 @@ chain_free : (ns : List Bool) (h : Level) (k : ℕ) → level_constrains ns h k 
 chain_free [] h k e = omega arith
 chain_free (n ∷ ns) end k e = omega arith
 chain_free (n ∷ ns) (item s c (item t d rest)) k e = omega arith
-chain_free (n ∷ ns) (item s c end) zero e = long_or (is_whole n s) ns c zero (λ whole. absurd (not_both (is_whole n s) whole e))
-chain_free (n ∷ ns) (item s c end) (suc k) e = long_or (is_whole n s) ns c (suc k) (λ whole. let low = chain_free ns c k (with_none (level_constrains ns c k) e) in omega (arith, low))
+chain_free (n ∷ ns) (item s c end) zero e = long_or (is_whole_span n s) ns c zero (λ whole. absurd (not_both (is_whole_span n s) whole e))
+chain_free (n ∷ ns) (item s c end) (suc k) e = long_or (is_whole_span n s) ns c (suc k) (λ whole. let low = chain_free ns c k (with_none (level_constrains ns c k) e) in omega (arith, low))
 
 -- what two levels have in common, from the depth of the first
 pub deep_hung : (ns : List Bool) (g h : Level) → IsCanonicalLevel ns g → IsCanonicalLevel ns h → (g ≡ end → ⊥) → (h ≡ end → ⊥) → depth_of g ≤ length (chain ns h) → both g h ≡ hung (chain ns h) g
@@ -134,8 +135,8 @@ one_item whole before s c after is none none' =
 pub opened_many : (n : Bool) (ns : List Bool) (whole before : Level) (s : Span) (c after : Level) → whole ≡ join_level before (item s c after) → 0 < length_of before + length_of after → chain (n ∷ ns) whole ≡ []
 opened_many n ns whole before s c after is many = ap (chain (n ∷ ns)) is ∙ chain_many n ns before s c after many
 
-pub opened_narrow : (n : Bool) (ns : List Bool) (whole before : Level) (s : Span) (c after : Level) → whole ≡ join_level before (item s c after) → length_of before ≡ 0 → length_of after ≡ 0 → is_whole n s ≡ false → chain (n ∷ ns) whole ≡ []
+pub opened_narrow : (n : Bool) (ns : List Bool) (whole before : Level) (s : Span) (c after : Level) → whole ≡ join_level before (item s c after) → length_of before ≡ 0 → length_of after ≡ 0 → is_whole_span n s ≡ false → chain (n ∷ ns) whole ≡ []
 opened_narrow n ns whole before s c after is none none' narrow = ap (chain (n ∷ ns)) (one_item whole before s c after is none none') ∙ chain_narrow n ns s c narrow
 
-pub opened_whole : (n : Bool) (ns : List Bool) (whole before : Level) (s : Span) (c after : Level) → whole ≡ join_level before (item s c after) → length_of before ≡ 0 → length_of after ≡ 0 → is_whole n s ≡ true → chain (n ∷ ns) whole ≡ c ∷ chain ns c
+pub opened_whole : (n : Bool) (ns : List Bool) (whole before : Level) (s : Span) (c after : Level) → whole ≡ join_level before (item s c after) → length_of before ≡ 0 → length_of after ≡ 0 → is_whole_span n s ≡ true → chain (n ∷ ns) whole ≡ c ∷ chain ns c
 opened_whole n ns whole before s c after is none none' wide = ap (chain (n ∷ ns)) (one_item whole before s c after is none none') ∙ chain_whole n ns s c end wide refl

@@ -7,7 +7,7 @@ use Rattle.rx_level.specs.Store.{owed}
 use Rattle.rx_level.specs.Step.{Owns, Step}
 use Rattle.rx_level.proofs.Steps.{then}
 use Rattle.rx_graft.specs.Made.{Made, HasLast, handles_of}
-use Rattle.rx_graft.proofs.Listed.{owed_handles, append_none}
+use Rattle.rx_graft.proofs.ListedLinks.{owed_handles, append_none}
 
 -- what is left of a memory, and what was spent
 pub record Forgotten (old now : Slab Node) (before remains : List Made) : Type 0 where

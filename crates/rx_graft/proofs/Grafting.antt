@@ -5,16 +5,16 @@ use Rattle.rx_value.specs.declared.order.End.{End}
 use Rattle.rx_value.specs.declared.order.End.TheVariants.{Last}
 use Rattle.rx_value.specs.declared.order.Span.{Span}
 use Rattle.rx_value.specs.Order.{is_at_most}
-use Rattle.rx_value.specs.Spans.{IsAtMost, IsSpan, IsCommon, is_inside, is_inside_part, meet_span}
+use Rattle.rx_value.specs.Spans.{IsAtMost, IsSpan, IsCommon, is_inside, is_inside_part, meet_span, first_end, whole_span, is_whole_span}
 use Rattle.rx_value.proofs.Ends.{at_most-trans, at_most-antisym, below-at_most-trans, below-irrefl, at_most-same, greatest_end}
 use Rattle.rx_value.proofs.Meeting.{inside, inside_bounds, lower_inside, span_known, meet_span_common}
-use Rattle.rx_tree.specs.Tree.{Level, first_of, whole_of, is_whole, is_end, level_constrains}
+use Rattle.rx_tree.specs.Tree.{Level, is_end, level_constrains}
 use Rattle.rx_tree.specs.Tree.Level.{end, item}
 use Rattle.rx_tree.specs.Member.{IsPosition, IsTuple, level_holds, child_holds}
 use Rattle.rx_tree.specs.Canonical.{Differs, IsNotAll, ArePlaced, IsCanonicalLevel}
 use Rattle.rx_tree.specs.Weld.{weld, glue}
-use Rattle.rx_tree.specs.Meet.{part_of, put_part, meet_child, unless_end, across, both}
-use Rattle.rx_tree.proofs.Sets.{whole_inside, whole_span}
+use Rattle.rx_tree.specs.Meet.{piece_of, put_piece, meet_child, unless_end, across, both}
+use Rattle.rx_tree.proofs.Sets.{whole_inside, whole_is_span}
 use Rattle.rx_tree.proofs.Unique.{some_held, some_missing, same_levels}
 use Rattle.rx_tree.proofs.Welding.{weld_apart}
 use Rattle.rx_tree.proofs.Intersection.{both_law}
@@ -41,13 +41,13 @@ or_second true b e = refl
 or_second false b e = e
 
 pub rest_constrains : (n : Bool) (ns : List Bool) (s : Span) (c rest : Level) (k : ℕ) → level_constrains (n ∷ ns) rest k ≡ true → level_constrains (n ∷ ns) (item s c rest) k ≡ true
-rest_constrains n ns s c rest zero e = or_second (not (is_whole n s)) (level_constrains (n ∷ ns) rest zero) e
+rest_constrains n ns s c rest zero e = or_second (not (is_whole_span n s)) (level_constrains (n ∷ ns) rest zero) e
 rest_constrains n ns s c rest (suc k) e = or_second (level_constrains ns c k) (level_constrains (n ∷ ns) rest (suc k)) e
 
 pub child_constrains : (n : Bool) (ns : List Bool) (s : Span) (c rest : Level) (k : ℕ) → level_constrains ns c k ≡ true → level_constrains (n ∷ ns) (item s c rest) (suc k) ≡ true
 child_constrains n ns s c rest k e = or_first (level_constrains ns c k) (level_constrains (n ∷ ns) rest (suc k)) e
 
-inside_same : (n : Bool) (s : Span) (p q : End) (w : Bool) → is_whole n s ≡ w → IsPosition n p → IsPosition n q → (not w ≡ true → p ≡ q) → is_inside s p ≡ is_inside s q
+inside_same : (n : Bool) (s : Span) (p q : End) (w : Bool) → is_whole_span n s ≡ w → IsPosition n p → IsPosition n q → (not w ≡ true → p ≡ q) → is_inside s p ≡ is_inside s q
 inside_same n s p q true whole here there same = whole_inside n s p whole here ∙ sym (whole_inside n s q whole there)
 inside_same n s p q false narrow here there same = ap (is_inside s) (same refl)
 
@@ -58,7 +58,7 @@ depends [] (item s c rest) ps qs placed fits fits' agree = absurd placed
 depends (n ∷ ns) (item s c rest) [] qs placed fits fits' agree = absurd fits
 depends (n ∷ ns) (item s c rest) (p ∷ ps) [] placed fits fits' agree = absurd fits'
 depends (n ∷ ns) (item s c rest) (p ∷ ps) (q ∷ qs) placed fits fits' agree =
-    let within : is_inside s p ≡ is_inside s q = inside_same n s p q (is_whole n s) refl fits.0 fits'.0 (λ e. agree.0 (or_first (not (is_whole n s)) (level_constrains (n ∷ ns) rest zero) e)) in
+    let within : is_inside s p ≡ is_inside s q = inside_same n s p q (is_whole_span n s) refl fits.0 fits'.0 (λ e. agree.0 (or_first (not (is_whole_span n s)) (level_constrains (n ∷ ns) rest zero) e)) in
     let child : level_holds c ps ≡ level_holds c qs = depends ns c ps qs placed.2 fits.1 fits'.1 (agree_fewer (λ k. level_constrains (n ∷ ns) (item s c rest) (suc k)) (level_constrains ns c) ps qs (child_constrains n ns s c rest) agree.1) in
     let after : level_holds rest (p ∷ ps) ≡ level_holds rest (q ∷ qs) = depends (n ∷ ns) rest (p ∷ ps) (q ∷ qs) placed.3 fits fits' (agree_fewer (level_constrains (n ∷ ns) (item s c rest)) (level_constrains (n ∷ ns) rest) (p ∷ ps) (q ∷ qs) (rest_constrains n ns s c rest) agree) in
     ap₂ (λ x y. (x && (is_end c || y)) || level_holds rest (p ∷ ps)) within child ∙ ap (λ z. (is_inside s q && (is_end c || level_holds c qs)) || z) after
@@ -137,17 +137,17 @@ abbrev child_of : Level → Level
 child_of end = end
 child_of (item s c rest) = c
 
-under_whole : (ns : List Bool) (c : Level) → ArePlaced ns c → IsNotAll ns c → ArePlaced (false ∷ ns) (item (whole_of false) c end)
-under_whole ns c placed not_all = (record { span = whole_span false; from = at_most-same (first_of false); rises = tt; differs = tt }, not_all, placed, tt)
+under_whole : (ns : List Bool) (c : Level) → ArePlaced ns c → IsNotAll ns c → ArePlaced (false ∷ ns) (item (whole_span false) c end)
+under_whole ns c placed not_all = (record { span = whole_is_span false; from = at_most-same (first_end false); rises = tt; differs = tt }, not_all, placed, tt)
 
-held_same : (ns : List Bool) (c d : Level) → ((ps : List End) → IsTuple ns ps → child_holds c ps ≡ child_holds d ps) → (ps : List End) → IsTuple (false ∷ ns) ps → level_holds (item (whole_of false) c end) ps ≡ level_holds (item (whole_of false) d end) ps
+held_same : (ns : List Bool) (c d : Level) → ((ps : List End) → IsTuple ns ps → child_holds c ps ≡ child_holds d ps) → (ps : List End) → IsTuple (false ∷ ns) ps → level_holds (item (whole_span false) c end) ps ≡ level_holds (item (whole_span false) d end) ps
 held_same ns c d same [] fits = refl
-held_same ns c d same (p ∷ ps) fits = ap (λ x. (is_inside (whole_of false) p && x) || false) (same ps fits.1)
+held_same ns c d same (p ∷ ps) fits = ap (λ x. (is_inside (whole_span false) p && x) || false) (same ps fits.1)
 
 -- children below which the same tuples go on are equal
 same_children : (ns : List Bool) (c d : Level) → ArePlaced ns c → IsNotAll ns c → ArePlaced ns d → IsNotAll ns d → ((ps : List End) → IsTuple ns ps → child_holds c ps ≡ child_holds d ps) → c ≡ d
 same_children ns c d placed not_all placed' not_all' same =
-    ap child_of (same_levels (false ∷ ns) (item (whole_of false) c end) (item (whole_of false) d end) (under_whole ns c placed not_all) (under_whole ns d placed' not_all') (held_same ns c d same))
+    ap child_of (same_levels (false ∷ ns) (item (whole_span false) c end) (item (whole_span false) d end) (under_whole ns c placed not_all) (under_whole ns d placed' not_all') (held_same ns c d same))
 
 -- different children have different levels below
 below_tells : (ns : List Bool) (c d h : Level) (ws : List End) → Beside ns c h → Beside ns d h → ArePlaced ns h → IsTuple ns ws → level_holds h ws ≡ true → below c h ≡ below d h → c ≡ d
@@ -180,12 +180,12 @@ whole_parts : (a b : Bool) → (a && b) ≡ true → (a ≡ true) × (b ≡ true
 whole_parts true b e = (refl, e)
 whole_parts false b e = absurd (cc e)
 
-in_whole : (n : Bool) (s t : Span) → IsAtMost (first_of n) s.lo → is_whole n t ≡ true → (p : End) → is_inside s p ≡ true → is_inside t p ≡ true
+in_whole : (n : Bool) (s t : Span) → IsAtMost (first_end n) s.lo → is_whole_span n t ≡ true → (p : End) → is_inside s p ≡ true → is_inside t p ≡ true
 in_whole n s t from whole p here =
-    let (lo, hi) = whole_parts (is_at_most t.lo (first_of n)) (is_at_most Last t.hi) whole in
+    let (lo, hi) = whole_parts (is_at_most t.lo (first_end n)) (is_at_most Last t.hi) whole in
     let b = inside_bounds s p here in
     inside t p
-    (at_most-trans t.lo (first_of n) p lo (at_most-trans (first_of n) s.lo p from b.0))
+    (at_most-trans t.lo (first_end n) p lo (at_most-trans (first_end n) s.lo p from b.0))
     (below-at_most-trans p s.hi t.hi b.1 (at_most-trans s.hi Last t.hi (greatest_end s.hi) hi))
 
 some_met : (s : Span) (m : Option Span) → IsSpan s → ((p : End) → is_inside_part m p ≡ is_inside s p) → ((k : Span) → m ≡ Some k → IsSpan k) → m ≡ Some s
@@ -197,7 +197,7 @@ span_part s t None common k is = absurd (cc is)
 span_part s t (Some m) common k is = let same : m ≡ k = cc is in subst IsSpan same common.span
 
 -- a span has itself in common with a whole one
-whole_meets : (n : Bool) (s t : Span) → IsSpan s → IsAtMost (first_of n) s.lo → is_whole n t ≡ true → meet_span s t ≡ Some s
+whole_meets : (n : Bool) (s t : Span) → IsSpan s → IsAtMost (first_end n) s.lo → is_whole_span n t ≡ true → meet_span s t ≡ Some s
 whole_meets n s t span from whole =
     let common = meet_span_common s t in
     some_met s (meet_span s t) span
@@ -214,10 +214,10 @@ graft_differs ns s c end h ws beside others other fits held differs = tt
 graft_differs ns s c (item t d rest) h ws beside others other fits held differs = λ touch same. differs touch (below_tells ns c d h ws beside others.0 other fits held same)
 
 graft_one : (ns : List Bool) (s t : Span) (c h b : Level) → meet_span s t ≡ Some s → meet_child (both c) c h ≡ Some (below c h) → glue (across (both c) c s (item t h end)) b ≡ weld s (below c h) b
-graft_one ns s t c h b spans child = ap₂ (λ m x. glue (put_part (part_of m x) end) b) spans child
+graft_one ns s t c h b spans child = ap₂ (λ m x. glue (put_piece (piece_of m x) end) b) spans child
 
 -- what a level and one whole item over a level of other parts have in common
-grafts : (n : Bool) (ns : List Bool) (g : Level) (t u : Span) (d more : Level) (ws : List End) → is_whole n t ≡ true → ArePlaced (n ∷ ns) g → AreBeside ns g (item u d more) → ArePlaced ns (item u d more) → IsTuple ns ws → level_holds (item u d more) ws ≡ true
+grafts : (n : Bool) (ns : List Bool) (g : Level) (t u : Span) (d more : Level) (ws : List End) → is_whole_span n t ≡ true → ArePlaced (n ∷ ns) g → AreBeside ns g (item u d more) → ArePlaced ns (item u d more) → IsTuple ns ws → level_holds (item u d more) ws ≡ true
     → both g (item t (item u d more) end) ≡ grafted (item u d more) g
 grafts n ns end t u d more ws whole placed beside other fits held = refl
 grafts n ns (item s c rest) t u d more ws whole placed beside other fits held =
@@ -258,7 +258,7 @@ neither false b e = absurd (cc e)
 
 -- a level of one whole item with a child
 pub record OneWhole (n : Bool) (t : Span) (d rest : Level) : Type 0 where
-  pub whole : is_whole n t ≡ true
+  pub whole : is_whole_span n t ≡ true
   pub alone : rest ≡ end
   pub child : d ≡ end → ⊥
 
@@ -267,18 +267,18 @@ alone_behind n ns t d end placed up = refl
 alone_behind n ns t d (item u e more) placed up =
     absurd (below-irrefl u.lo (below-at_most-trans u.lo u.hi u.lo placed.3.0.span (at_most-trans u.hi Last u.lo (greatest_end u.hi) (at_most-trans Last t.hi u.lo up placed.0.rises))))
 
-all_is : (n : Bool) (t : Span) (d rest : Level) → t.lo ≡ first_of n → t.hi ≡ Last → d ≡ end → rest ≡ end → item t d rest ≡ item (whole_of n) end end
+all_is : (n : Bool) (t : Span) (d rest : Level) → t.lo ≡ first_end n → t.hi ≡ Last → d ≡ end → rest ≡ end → item t d rest ≡ item (whole_span n) end end
 all_is n t d rest lo hi child after = λ i. item (record { lo = lo i; hi = hi i }) (child i) (after i)
 
 pub one_whole : (n : Bool) (ns : List Bool) (t : Span) (d rest : Level) → IsCanonicalLevel (n ∷ ns) (item t d rest) → level_constrains (n ∷ ns) (item t d rest) 0 ≡ false → OneWhole n t d rest
 one_whole n ns t d rest canonical free =
-    let whole : is_whole n t ≡ true = neither (is_whole n t) (level_constrains (n ∷ ns) rest 0) free in
-    let (lo, hi) = whole_parts (is_at_most t.lo (first_of n)) (is_at_most Last t.hi) whole in
+    let whole : is_whole_span n t ≡ true = neither (is_whole_span n t) (level_constrains (n ∷ ns) rest 0) free in
+    let (lo, hi) = whole_parts (is_at_most t.lo (first_end n)) (is_at_most Last t.hi) whole in
     let alone : rest ≡ end = alone_behind n ns t d rest canonical.placed hi in
     record {
       whole = whole;
       alone = alone;
-      child = λ e. canonical.not_all (all_is n t d rest (at_most-antisym t.lo (first_of n) lo canonical.placed.0.from) (at_most-antisym t.hi Last (greatest_end t.hi) hi) e alone);
+      child = λ e. canonical.not_all (all_is n t d rest (at_most-antisym t.lo (first_end n) lo canonical.placed.0.from) (at_most-antisym t.hi Last (greatest_end t.hi) hi) e alone);
     }
 
 are_beside : (n : Bool) (ns : List Bool) (g h : Level) → ArePlaced (n ∷ ns) g → ((k : ℕ) → level_constrains (n ∷ ns) g (suc k) ≡ true → level_constrains ns h k ≡ false) → AreBeside ns g h

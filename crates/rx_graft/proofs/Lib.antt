@@ -1,11 +1,11 @@
 pub mod Grafting
-pub mod Listed
+pub mod ListedLinks
 pub mod Depths
-pub mod Standing
+pub mod GraftedTrees
 pub mod Adding
 pub mod Ready
 pub mod Wholes
-pub mod Parts
+pub mod MadeParts
 pub mod Numbers
 pub mod Forgetting
 pub mod Bounds

@@ -7,7 +7,7 @@ use Rattle.rx_level.specs.Store.{owed}
 use Rattle.rx_level.specs.Under.{IsMarked}
 use Rattle.rx_level.proofs.Counts.{leads_unlike}
 use Rattle.rx_graft.specs.Made.{Place, is_same_place, Made, Among, AreDifferent, handles_of}
-use Rattle.rx_graft.proofs.Listed.{is_same}
+use Rattle.rx_graft.proofs.ListedLinks.{is_same}
 
 -- how many marks a list has
 abbrev pub marks_in : List Bool → ℕ

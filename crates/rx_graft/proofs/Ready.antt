@@ -9,7 +9,7 @@ use Rattle.rx_level.specs.Standing.{StandsIn}
 use Rattle.rx_level.proofs.Steps.{keeps_root}
 use Rattle.rx_graft.specs.Hang.{hung, depth_of}
 use Rattle.rx_graft.specs.Made.{Made, handles_of, levels_of, AreLent, StandsInOne, IsKnown, IsReady}
-use Rattle.rx_graft.proofs.Listed.{leads_among}
+use Rattle.rx_graft.proofs.ListedLinks.{leads_among}
 use Rattle.rx_graft.proofs.Adding.{Stays, stays}
 
 -- what links tell of their levels stays

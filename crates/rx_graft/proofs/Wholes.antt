@@ -17,10 +17,10 @@ use Rattle.rx_level.proofs.Heights.{forked}
 use Rattle.rx_level.proofs.Steps.{keeps_root}
 use Rattle.rx_graft.specs.Hang.{hung, hung_below, depth_of}
 use Rattle.rx_graft.specs.Made.{Place, Made, Among, handles_of, levels_of, StandsInOne, IsMadeOf, IsKnown, IsReady, Adds, StandsFrom, Hangs}
-use Rattle.rx_graft.proofs.Listed.{among_either, leads_among, owed_handles}
+use Rattle.rx_graft.proofs.ListedLinks.{among_either, leads_among, owed_handles}
 use Rattle.rx_graft.proofs.Depths.{onward, hung_whole, smaller}
-use Rattle.rx_graft.proofs.Standing.{nodes_of, standing, stands_where, rooted}
-use Rattle.rx_graft.proofs.Standing.Where.{at_top, in_child, in_left, in_right}
+use Rattle.rx_graft.proofs.GraftedTrees.{nodes_of, standing, stands_where, rooted}
+use Rattle.rx_graft.proofs.GraftedTrees.Where.{at_top, in_child, in_left, in_right}
 use Rattle.rx_graft.proofs.Adding.{adds_step, adds_then, adds_all_owned, stays}
 use Rattle.rx_graft.proofs.Ready.{links_stay, known_stays}
 

@@ -1,6 +1,7 @@
 -- A list of levels hung below the ends of another level.
 use Rattle.std.specs.Prelude.{ℕ, ◌+◌, max, Bool, cond, List, [], ◌∷◌}
-use Rattle.rx_tree.specs.Tree.{Level, is_whole}
+use Rattle.rx_value.specs.Spans.{is_whole_span}
+use Rattle.rx_tree.specs.Tree.{Level}
 use Rattle.rx_tree.specs.Tree.Level.{end, item}
 
 -- a level in place of one without items
@@ -23,7 +24,7 @@ depth_of (item s c rest) = max (1 + depth_of c) (depth_of rest)
 abbrev pub chain : List Bool → Level → List Level
 chain [] l = []
 chain (n ∷ ns) end = []
-chain (n ∷ ns) (item s c end) = cond (is_whole n s) (c ∷ chain ns c) []
+chain (n ∷ ns) (item s c end) = cond (is_whole_span n s) (c ∷ chain ns c) []
 chain (n ∷ ns) (item s c (item t d rest)) = []
 
 -- what hangs below an item over this level, and below all that stands in it

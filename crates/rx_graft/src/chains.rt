@@ -7,11 +7,12 @@ ghost use Rattle.rx_level.specs.Standing.{StandsIn};
 ghost use Rattle.rx_graft.specs.Hang.{chain};
 ghost use Rattle.rx_graft.specs.Made.{AreLent, StandIn, levels_of};
 
-use rx_level::{Levels, is_whole};
+use rx_level::{Levels, Link};
+use rx_value::is_whole_span;
 use std::alloc::{AllocError, Global};
 
 // What a lent level that is one whole item leads to.
-fn below_whole(levels: &Levels, nullable: bool, root: Option<usize>) -> Option<Option<usize>>
+fn below_whole(levels: &Levels, nullable: bool, root: Link) -> Option<Link>
     requires sound { IsSound levels.now [] }
     requires root { Lent levels.now [] root }
     ensures some { IfSome result (λ child. (parts : List Bool) → chain (nullable ∷ parts) (level_of levels.now root) ≡ level_of levels.now child ∷ chain parts (level_of levels.now child)) }
@@ -28,7 +29,7 @@ fn below_whole(levels: &Levels, nullable: bool, root: Option<usize>) -> Option<O
     if levels.count(top.right) != 0 {
         return None;
     }
-    if !is_whole(nullable, top.span) {
+    if !is_whole_span(nullable, top.span) {
         return None;
     }
     Some(top.child)
@@ -40,8 +41,8 @@ pub fn chain_of(
     alloc: Global,
     levels: &Levels,
     parts: &[bool],
-    root: Option<usize>,
-) -> Result<Vec<Option<usize>>, AllocError>
+    root: Link,
+) -> Result<Vec<Link>, AllocError>
     requires sound { IsSound levels.now [] }
     requires root { Lent levels.now [] root }
     ensures levels { IfOk result (λ links. levels_of levels.now links.items ≡ chain parts.now (level_of levels.now root)) }

@@ -11,7 +11,7 @@ ghost use Rattle.rx_graft.specs.Made.{Made, AreLent, StandIn, handles_of, levels
 
 use crate::hanging::{GraftFault, hang};
 use crate::memory::Memory;
-use rx_level::Levels;
+use rx_level::{Levels, Link, Owned};
 use std::alloc::Global;
 
 // Spends the handles of what a memory holds.
@@ -35,9 +35,9 @@ fn forget(levels: &mut Levels, memory: &mut Memory)
 pub fn graft(
     alloc: Global,
     levels: &mut Levels,
-    chain: &[Option<usize>],
+    chain: &[Link],
     root: usize,
-) -> Result<Option<usize>, GraftFault>
+) -> Result<Owned, GraftFault>
     requires sound { IsSound levels.old [] }
     requires root { Lent levels.old [] (Some root) }
     requires chain { AreLent levels.old chain.now }

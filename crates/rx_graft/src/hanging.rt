@@ -10,7 +10,7 @@ ghost use Rattle.rx_graft.specs.Hang.{hung, hung_below, depth_of};
 ghost use Rattle.rx_graft.specs.Made.{Made, Lacks, IsReady, Adds, Hangs, levels_of};
 
 use crate::memory::Memory;
-use rx_level::{Item, Levels, copy_span};
+use rx_level::{Item, Levels, Link, Owned};
 use std::alloc::{AllocError, Global};
 
 /// Why a list of levels isn't hung below another level.
@@ -23,7 +23,7 @@ pub enum GraftFault {
 }
 
 // The link that stands so far in a list.
-fn link_at(chain: &[Option<usize>], depth: usize) -> Option<Option<usize>>
+fn link_at(chain: &[Link], depth: usize) -> Option<Link>
     ensures some { IfSome result (λ link. slice_get chain.now depth ≡ Some link) }
     ensures within { IfSome result (λ link. depth < length chain.now) }
     ensures none { IfNone result (length chain.now ≤ depth) }
@@ -39,9 +39,9 @@ fn keep(
     node: usize,
     depth: usize,
     item: Item,
-    left: Option<usize>,
-    right: Option<usize>,
-) -> Result<Option<usize>, AllocError>
+    left: Owned,
+    right: Owned,
+) -> Result<Owned, AllocError>
     requires owns { Owns levels.old (item.child ∷ left ∷ right ∷ []) }
     requires near { IsNear (tall_of levels.old left) (tall_of levels.old right) }
     requires lacks { Lacks memory.old (node, depth) }
@@ -73,10 +73,10 @@ fn under(
     levels: &mut Levels,
     alloc: Global,
     memory: &mut Memory,
-    chain: &[Option<usize>],
+    chain: &[Link],
     depth: usize,
-    child: Option<usize>,
-) -> Result<Option<usize>, GraftFault>
+    child: Link,
+) -> Result<Owned, GraftFault>
     requires ready { IsReady levels.old chain.now memory.old }
     requires child { Lent levels.old [] child }
     ensures ok { IfOk result (λ r. Hangs levels.old levels.new chain.now (depth + 1) child memory.old memory.new r) }
@@ -106,10 +106,10 @@ fn make(
     levels: &mut Levels,
     alloc: Global,
     memory: &mut Memory,
-    chain: &[Option<usize>],
+    chain: &[Link],
     depth: usize,
     key: usize,
-) -> Result<Option<usize>, GraftFault>
+) -> Result<Owned, GraftFault>
     requires ready { IsReady levels.old chain.now memory.old }
     requires root { Lent levels.old [] (Some key) }
     requires lacks { Lacks memory.old (key, depth) }
@@ -126,7 +126,7 @@ fn make(
     let left = seen.left;
     let right = seen.right;
     let part = seen.part;
-    let Ok(span) = copy_span(alloc, seen.span) else {
+    let Ok(span) = seen.span.copy(alloc) else {
         return Err(GraftFault::NoMemory);
     };
     let below = match under(levels, alloc, memory, chain, depth, child) {
@@ -170,10 +170,10 @@ pub fn hang(
     levels: &mut Levels,
     alloc: Global,
     memory: &mut Memory,
-    chain: &[Option<usize>],
+    chain: &[Link],
     depth: usize,
-    root: Option<usize>,
-) -> Result<Option<usize>, GraftFault>
+    root: Link,
+) -> Result<Owned, GraftFault>
     requires ready { IsReady levels.old chain.now memory.old }
     requires root { Lent levels.old [] root }
     ensures ok { IfOk result (λ r. Hangs levels.old levels.new chain.now depth root memory.old memory.new r) }

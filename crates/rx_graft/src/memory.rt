@@ -4,6 +4,7 @@ ghost use Rattle.std.specs.Prelude.{◌≡◌, ◌++◌, ◌∷◌, ◌+◌, ℕ
 ghost use Rattle.rx_graft.specs.Made.{Made, Among, AreDifferent, Lacks, HasLast};
 
 use indexmap::IndexMap;
+use rx_level::{Link, Owned};
 use std::alloc::{AllocError, Global};
 use std::marker::Model;
 
@@ -11,7 +12,7 @@ use std::marker::Model;
 /// many levels stand above it. It takes memory for what it holds alone.
 #[derive(Drop)]
 pub struct Memory {
-    made: IndexMap<(usize, usize), Option<usize>>,
+    made: IndexMap<(usize, usize), Owned>,
 }
 
 impl Model for Memory {
@@ -43,7 +44,7 @@ impl Memory {
     }
 
     /// What was made at a place, where something was.
-    pub fn find(&self, node: usize, depth: usize) -> Option<Option<usize>>
+    pub fn find(&self, node: usize, depth: usize) -> Option<Link>
         ensures some { IfSome result (λ made. Among self.now ((node, depth), made)) }
         ensures none { IfNone result (Lacks self.now (node, depth)) }
     {
@@ -51,7 +52,7 @@ impl Memory {
     }
 
     /// Remembers what was made at a place where nothing was before. The error is want of memory.
-    pub fn note(&mut self, node: usize, depth: usize, made: Option<usize>) -> Result<(), AllocError>
+    pub fn note(&mut self, node: usize, depth: usize, made: Owned) -> Result<(), AllocError>
         requires { Lacks self.old (node, depth) }
         ensures ok { OnOk result (self.new ≡ self.old ++ ((node, depth), made) ∷ []) }
         ensures err { OnErr result (self.new ≡ self.old) }
@@ -61,7 +62,7 @@ impl Memory {
     }
 
     /// Forgets what came last, and gives its handle.
-    pub fn take_last(&mut self) -> Option<Option<usize>>
+    pub fn take_last(&mut self) -> Option<Owned>
         ensures some { IfSome result (λ made. HasLast self.old self.new made) }
         ensures none { IfNone result (self.old ≡ []) }
     {

@@ -4,9 +4,9 @@ use Rattle.rx_level.specs.Store.{root_in, roots_in}
 use Rattle.rx_level.proofs.Totals.{totals}
 use Rattle.rx_graph.specs.declared.handles.Root.{Root}
 use Rattle.rx_graph.specs.declared.handles.Root.TheVariants.{Everything, Nothing, Items}
-use Rattle.rx_graph.specs.Graph.{Graph, Steps, handle_count, link_of, links_of, is_all, is_none, all_in, none_in}
+use Rattle.rx_graph.specs.Graph.{Graph, Steps, handle_count, link_of, links_of, all_at, none_at, all_in, none_in}
 
-one_of : (r : Root) → is_all r + is_none r + root_in (link_of r) ≡ 1
+one_of : (r : Root) → all_at r + none_at r + root_in (link_of r) ≡ 1
 one_of Everything = refl
 one_of Nothing = refl
 one_of (Items k) = refl

@@ -10,7 +10,7 @@ use Rattle.rx_level.proofs.Totals.{totals}
 use Rattle.rx_graph.specs.declared.handles.Root.{Root}
 use Rattle.rx_graph.specs.declared.handles.Root.TheVariants.{Everything, Nothing, Items}
 use Rattle.rx_graph.specs.Graph.{Graph, AreCanonical, handle_count, times}
-use Rattle.rx_graph.proofs.Steps.{canonical_kept, canonical_given, steps_from}
+use Rattle.rx_graph.proofs.GraphSteps.{canonical_kept, canonical_given, steps_from}
 
 -- how many handles everything and nothing have says nothing of trees
 counts_apart : (g : Graph) (all none : ℕ) → AreCanonical (record g { all = all; none = none }) → AreCanonical g
@@ -33,9 +33,9 @@ back_with old mid taken levels g h k o is_taken is_mid is_some step is was =
 pub back_none : (old mid : Graph) (taken levels : Slab Node) (g h : ℕ) (o : Option ℕ) → taken ≡ old.store → mid ≡ record old { store = mid.store } → o ≡ None
     → Step taken levels (Some g ∷ Some h ∷ []) (o ∷ []) → AreCanonical old
     → AreCanonical (record mid { store = levels })
-back_none old mid taken levels g h o is_taken is_mid is_none step was =
+back_none old mid taken levels g h o is_taken is_mid none_at step was =
     let moved : Step old.store levels (Some g ∷ Some h ∷ []) (None ∷ []) =
-    subst (λ (x : Option ℕ). Step old.store levels (Some g ∷ Some h ∷ []) (x ∷ [])) is_none (subst (λ (s : Slab Node). Step s levels (Some g ∷ Some h ∷ []) (o ∷ [])) is_taken step) in
+    subst (λ (x : Option ℕ). Step old.store levels (Some g ∷ Some h ∷ []) (x ∷ [])) none_at (subst (λ (s : Slab Node). Step s levels (Some g ∷ Some h ∷ []) (o ∷ [])) is_taken step) in
     let new : Graph = record mid { store = levels; none = mid.none + 1 } in
     counts_apart (record mid { store = levels }) mid.all (mid.none + 1)
     (canonical_given old new (Items g ∷ Items h ∷ []) Nothing

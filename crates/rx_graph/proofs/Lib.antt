@@ -1,5 +1,5 @@
 pub mod Amounts
 pub mod Back
-pub mod Listed
+pub mod ListedRoots
 pub mod Same
-pub mod Steps
+pub mod GraphSteps

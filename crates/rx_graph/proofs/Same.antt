@@ -12,7 +12,7 @@ use Rattle.rx_level.proofs.Lending.{lent_held}
 use Rattle.rx_graph.specs.declared.handles.Root.{Root}
 use Rattle.rx_graph.specs.declared.handles.Root.TheVariants.{Everything, Nothing, Items}
 use Rattle.rx_graph.specs.Graph.{Graph, IsHeld, AreCanonical, tree_in}
-use Rattle.rx_graph.proofs.Steps.{once, held_items}
+use Rattle.rx_graph.proofs.GraphSteps.{once, held_items}
 
 -- a level that a handle holds is lent
 pub root_lent : (g : Graph) (s : Slab Node) (h r : Root) (k : ℕ) → s ≡ g.store → IsHeld g (h ∷ []) → r ≡ h → r ≡ Items k → Lent s [] (Some k)

@@ -1,6 +1,7 @@
 -- What an arena means: trees by the numbers of their handles, and how often each is held.
-use Rattle.std.specs.Prelude.{◌≡◌, ◌≤◌, ◌<◌, ◌+◌, ℕ, Bool, List, [], ◌∷◌, Option, Some, None}
+use Rattle.std.specs.Prelude.{◌≡◌, ◌≤◌, ◌<◌, ◌+◌, ℕ, Bool, List, [], ◌∷◌, Option, Some, None, length}
 use Rattle.slab.specs.Slab.{Slab}
+use Rattle.rx_value.specs.Limits.{most_parts}
 use Rattle.rx_tree.specs.Tree.{Tree}
 use Rattle.rx_tree.specs.Tree.Tree.{everything, nothing, items}
 use Rattle.rx_tree.specs.Canonical.{IsCanonical}
@@ -9,6 +10,10 @@ use Rattle.rx_level.specs.Store.{held_of, owed, total_held}
 use Rattle.rx_level.specs.Step.{level_of}
 use Rattle.rx_graph.specs.declared.handles.Root.{Root}
 use Rattle.rx_graph.specs.declared.handles.Root.TheVariants.{Everything, Nothing, Items}
+
+-- the parts of an index, each with whether it may be NULL: at least one, and no more than an index has
+abbrev pub IsPartList : List Bool → Type 0
+IsPartList nullable = (1 ≤ length nullable) × (length nullable ≤ most_parts)
 
 -- The parts, each with whether it may be NULL; the store of levels; and how many handles everything and nothing have.
 pub record Graph : Type 0 where
@@ -45,26 +50,26 @@ links_of [] = []
 links_of (r ∷ rest) = link_of r ∷ links_of rest
 
 -- 1 where the root is everything
-abbrev pub is_all : Root → ℕ
-is_all Everything = 1
-is_all Nothing = 0
-is_all (Items k) = 0
+abbrev pub all_at : Root → ℕ
+all_at Everything = 1
+all_at Nothing = 0
+all_at (Items k) = 0
 
 -- 1 where the root is nothing
-abbrev pub is_none : Root → ℕ
-is_none Everything = 0
-is_none Nothing = 1
-is_none (Items k) = 0
+abbrev pub none_at : Root → ℕ
+none_at Everything = 0
+none_at Nothing = 1
+none_at (Items k) = 0
 
 -- how often everything stands in a list of roots
 abbrev pub all_in : List Root → ℕ
 all_in [] = 0
-all_in (r ∷ rest) = is_all r + all_in rest
+all_in (r ∷ rest) = all_at r + all_in rest
 
 -- how often nothing stands in a list of roots
 abbrev pub none_in : List Root → ℕ
 none_in [] = 0
-none_in (r ∷ rest) = is_none r + none_in rest
+none_in (r ∷ rest) = none_at r + none_in rest
 
 -- how often a root stands in a list
 abbrev pub times : Root → List Root → ℕ

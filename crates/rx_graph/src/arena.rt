@@ -10,14 +10,15 @@ ghost use Rattle.rx_level.specs.Store.{IsSound, IsReached, tree_of};
 ghost use Rattle.rx_level.specs.Under.{IsNumberUnder, IsUnder};
 ghost use Rattle.rx_level.specs.Standing.{IsAtOneDepth, StandsIn};
 ghost use Rattle.rx_graph.specs.declared.handles.Root.TheVariants.{Everything as all_keys, Nothing as no_keys};
-ghost use Rattle.rx_graph.specs.Graph.{Graph, Steps, IsHeld, AreCanonical, handle_count, link_of, tree_in};
+ghost use Rattle.rx_graph.specs.Graph.{Graph, IsPartList, Steps, IsHeld, AreCanonical, handle_count, link_of, tree_in};
 
 use crate::handles::{Handle, Root};
+use crate::parts::Parts;
 use crate::points::level_at;
 use crate::rising::are_spans_at;
 use crate::wholes::is_whole_at;
 use rx_level::{Levels, same_levels};
-use rx_value::{BoolList, SpanList};
+use rx_value::SpanList;
 use std::alloc::{AllocError, Global};
 use std::marker::Model;
 use std::mem;
@@ -26,7 +27,7 @@ use std::mem;
 #[derive(Drop)]
 pub struct Arena {
     alloc: Global,
-    nullable: BoolList,
+    nullable: Parts,
     levels: Levels,
     all: u64,
     none: u64,
@@ -43,14 +44,15 @@ impl Model for Arena {
 }
 
 impl Arena {
-    /// No trees, over parts of which each may be NULL or not. The error is want of memory.
+    /// No trees, over the parts of an index, each of which may be NULL or not. The error is want of memory.
     pub fn new(alloc: Global, nullable: &[bool]) -> Result<Arena, AllocError>
+        requires { IsPartList nullable.now }
         ensures parts { IfOk result (λ a. a.nullable ≡ nullable.now) }
         ensures handles { IfOk result (λ a. handle_count a ≡ 0) }
         ensures live { IfOk result (λ a. slab_len a.store ≡ 0) }
         ensures canonical { IfOk result (λ a. AreCanonical a) }
     {
-        let nullable = BoolList::from_vec(Vec::from_slice(alloc, nullable)?);
+        let nullable = Parts::new(alloc, nullable)?;
         Ok(Arena {
             alloc,
             nullable,
@@ -238,7 +240,8 @@ impl Arena {
 
     /// The parts, each with whether it may be NULL.
     pub fn parts(&self) -> &[bool]
-        ensures { result.now ≡ self.now.nullable }
+        ensures items { result.now ≡ self.now.nullable }
+        ensures number { IsPartList self.now.nullable }
     {
         self.nullable.as_slice()
     }

@@ -1,6 +1,7 @@
 ghost use Rattle.std.specs.Prelude.{◌≡◌, Some};
 ghost use Rattle.rx_graph.specs.Graph.{link_of};
 
+use rx_level::Link;
 use std::marker::Model;
 
 /// Where the tree of a handle begins: everything and nothing have no items.
@@ -40,7 +41,7 @@ impl Handle {
     }
 
     /// The link to the level of a handle, none where its tree has no items.
-    pub fn link(&self) -> Option<usize>
+    pub fn link(&self) -> Link
         ensures { result ≡ link_of self.now }
     {
         match self.root {

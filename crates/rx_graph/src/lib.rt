@@ -5,6 +5,7 @@ mod arena;
 mod faults;
 mod handles;
 mod limits;
+mod parts;
 mod points;
 mod rising;
 mod wholes;

@@ -1,6 +1,6 @@
 //! Graphs that are kept where they have no more items than a limit.
 
-ghost use Rattle.std.specs.Prelude.{◌≡◌, ◌<◌, ◌≤◌, ◌+◌, ℕ, List, [], ◌∷◌, None, IfOk, OnOk, OnErr};
+ghost use Rattle.std.specs.Prelude.{◌≡◌, ◌<◌, ◌≤◌, ◌+◌, ℕ, List, [], ◌∷◌, None, IfOk, IfErr, OnOk, OnErr};
 ghost use Rattle.slab.specs.Slab.{slab_len};
 ghost use Rattle.rx_tree.specs.Tree.{size};
 ghost use Rattle.rx_graph.specs.Graph.{Steps, IsHeld, handle_count, link_of, tree_in};
@@ -20,6 +20,7 @@ pub fn within(arena: &mut Arena, h: Handle, limit: u64) -> Result<Handle, GraphF
     ensures tree { IfOk result (λ r. tree_in arena.new r ≡ tree_in arena.old h) }
     ensures small { IfOk result (λ r. size (tree_in arena.new r) ≤ limit) }
     ensures over { OnErr result (limit < size (tree_in arena.old h)) }
+    ensures only { IfErr result (λ fault. fault ≡ GraphFault.OverLimit) }
     ensures err { OnErr result (Steps arena.old arena.new (h ∷ []) []) }
     ensures same { IfOk result (λ r. (r ≡ h) × (arena.new ≡ arena.old)) }
     ensures live { slab_len arena.new.store ≤ slab_len arena.old.store }
@@ -50,6 +51,7 @@ pub fn second_within(
     ensures tree { IfOk result (λ r. tree_in arena.new r ≡ tree_in arena.old h) }
     ensures small { IfOk result (λ r. size (tree_in arena.new r) ≤ limit) }
     ensures over { OnErr result (limit < size (tree_in arena.old h)) }
+    ensures only { IfErr result (λ fault. fault ≡ GraphFault.OverLimit) }
     ensures err { OnErr result (Steps arena.old arena.new (spare ∷ h ∷ []) []) }
     ensures root { IfOk result (λ r. r ≡ h) }
     ensures live { slab_len arena.new.store ≤ slab_len arena.old.store }

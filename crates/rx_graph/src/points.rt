@@ -6,8 +6,8 @@ ghost use Rattle.rx_tree.specs.Points.{items_at};
 ghost use Rattle.rx_level.specs.Store.{IsSound};
 ghost use Rattle.rx_level.specs.Step.{Step, level_of};
 
-use rx_level::{Item, Levels, build, whole_of};
-use rx_value::Span;
+use rx_level::{Item, Levels, Owned, build};
+use rx_value::{Span, whole_span};
 use std::alloc::{AllocError, Global};
 
 /// The items of some spans at a part, under one whole item of each part before it. The parts are counted
@@ -19,7 +19,7 @@ pub fn level_at(
     at: u32,
     part: u32,
     spans: &[Span],
-) -> Result<Option<usize>, AllocError>
+) -> Result<Owned, AllocError>
     requires { IsSound levels.old [] }
     ensures ok { IfOk result (λ r. Step levels.old levels.new [] (r ∷ [])) }
     ensures level { IfOk result (λ r. level_of levels.new r ≡ items_at nullable.now part spans.now) }
@@ -29,8 +29,7 @@ pub fn level_at(
         return Ok(None);
     };
     if part == 0 {
-        let level = build(levels, alloc, at, spans)?;
-        return Ok(level);
+        return build(levels, alloc, at, spans);
     }
     let Some(next) = at.checked_add(1) else {
         return Err(AllocError);
@@ -38,9 +37,8 @@ pub fn level_at(
     let child = level_at(levels, alloc, rest, next, part - 1, spans)?;
     let item = Item {
         part: at,
-        span: whole_of(*first),
+        span: whole_span(*first),
         child,
     };
-    let whole = levels.branch(item, None, None)?;
-    Ok(whole)
+    levels.branch(item, None, None)
 }

@@ -1,12 +1,10 @@
 //! Lists of spans that a point set takes.
 
 ghost use Rattle.std.specs.Prelude.{◌≡◌, ◌↔◌, Bool, IsTrue};
-ghost use Rattle.rx_value.specs.Spans.{IsAtMost, IsBelow, IsSpan};
-ghost use Rattle.rx_tree.specs.Tree.{first_of};
+ghost use Rattle.rx_value.specs.Spans.{IsAtMost, IsBelow, IsSpan, first_end};
 ghost use Rattle.rx_tree.specs.Points.{AreApart, AreSpans, AreSpansAt};
 
-use rx_level::{first_of, is_at_most};
-use rx_value::{End, Span};
+use rx_value::{End, Span, first_end, is_at_most};
 
 /// Whether these are spans of a part, which is one of the parts, that rise and don't touch, none below
 /// the first position of the part.
@@ -29,7 +27,7 @@ fn are_spans(nullable: bool, spans: &[Span]) -> bool
     let [span, rest @ ..] = spans else {
         return true;
     };
-    let first = first_of(nullable);
+    let first = first_end(nullable);
     is_at_most(&first, &span.lo) && is_below(&span.lo, &span.hi) && are_apart(&span.hi, rest)
 }
 

@@ -3,15 +3,14 @@
 ghost use Rattle.std.specs.Prelude.{◌≡◌, Bool};
 ghost use Rattle.rx_tree.specs.Points.{is_whole_list, is_whole_at};
 
-use rx_level::is_whole;
-use rx_value::Span;
+use rx_value::{Span, is_whole_span};
 
 // Whether there is one span alone, and it is whole.
 fn is_whole_list(nullable: bool, spans: &[Span]) -> bool
     ensures { result ≡ is_whole_list nullable spans.now }
 {
     match spans {
-        [span] => is_whole(nullable, span),
+        [span] => is_whole_span(nullable, span),
         _ => false,
     }
 }

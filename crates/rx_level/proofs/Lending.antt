@@ -7,9 +7,9 @@ use Rattle.rx_tree.specs.Join.{join_level}
 use Rattle.rx_tree.specs.Tree.Level.{item}
 use Rattle.rx_level.specs.Tree.{Tree, fork_of}
 use Rattle.rx_level.specs.Tree.Tree.{none, some}
-use Rattle.rx_level.specs.Store.{at, IsThere, IsSound, Parts, parts_in, rank_in, held_of, leads, owed, tree_of, tree_at}
-use Rattle.rx_level.specs.Step.{Step, level_of, IsPart, IsLent, Lent}
-use Rattle.rx_level.specs.Step.IsPart.{self, child, left, right}
+use Rattle.rx_level.specs.Store.{at, IsThere, IsSound, Body, body_in, rank_in, held_of, leads, owed, tree_of, tree_at}
+use Rattle.rx_level.specs.Step.{Step, level_of, IsSubtree, IsLent, Lent}
+use Rattle.rx_level.specs.Step.IsSubtree.{self, child, left, right}
 use Rattle.rx_level.proofs.Steps.{level_of-parts, tree_of-parts, links_there}
 use Rattle.rx_level.proofs.Unfolding.{tree_of-node}
 use Rattle.rx_level.proofs.Counts.{leads_same}
@@ -58,13 +58,13 @@ stands_below s sound k (Some v) is sp c l r e =
       right = subst (λ (t : Tree). tree_of s (root_of t) ≡ t) (ap right_of same) (stands_at s sound v.right);
     }
 
-part_stands : (s : Slab Node) → IsSound s [] → (t u : Tree) → IsPart t u → tree_of s (root_of u) ≡ u → tree_of s (root_of t) ≡ t
+part_stands : (s : Slab Node) → IsSound s [] → (t u : Tree) → IsSubtree t u → tree_of s (root_of u) ≡ u → tree_of s (root_of t) ≡ t
 part_stands s sound t u (self) h = h
 part_stands s sound t u (child k sp c l r p) h = part_stands s sound t c p (stands_below s sound k (get s k) refl sp c l r h).child
 part_stands s sound t u (left k sp c l r p) h = part_stands s sound t l p (stands_below s sound k (get s k) refl sp c l r h).left
 part_stands s sound t u (right k sp c l r p) h = part_stands s sound t r p (stands_below s sound k (get s k) refl sp c l r h).right
 
-part_part : (t u v : Tree) → IsPart t u → IsPart u v → IsPart t v
+part_part : (t u v : Tree) → IsSubtree t u → IsSubtree u v → IsSubtree t v
 part_part t u v p (self) = p
 part_part t u v p (child k sp c l r q) = child k sp c l r (part_part t u c p q)
 part_part t u v p (left k sp c l r q) = left k sp c l r (part_part t u l p q)
@@ -87,7 +87,7 @@ lent_after a b s g besides later sound step low fits None h = record { tree = re
 lent_after a b s g besides later sound step low fits (Some k) h =
     let m = h.holder in
     let holder : tree_of b (Some m) ≡ tree_of a (Some m) = step.keeps m (omega (arith, h.held, low m)) in
-    let part : IsPart (tree_of a (Some k)) (tree_of b (Some m)) = subst (λ (t : Tree). IsPart (tree_of a (Some k)) t) (sym holder) h.part in
+    let part : IsSubtree (tree_of a (Some k)) (tree_of b (Some m)) = subst (λ (t : Tree). IsSubtree (tree_of a (Some k)) t) (sym holder) h.part in
     let root : root_of (tree_of a (Some k)) ≡ Some k = root_there a sound k (get a k) refl h.there in
     let stands : tree_of b (root_of (tree_of a (Some k))) ≡ tree_of a (Some k) = part_stands b step.sound (tree_of a (Some k)) (tree_of b (Some m)) part (stands_at b step.sound (Some m)) in
     let same : tree_of b (Some k) ≡ tree_of a (Some k) = subst (λ (r : Option ℕ). tree_of b r ≡ tree_of a (Some k)) root stands in
@@ -96,26 +96,26 @@ lent_after a b s g besides later sound step low fits (Some k) h =
       lent = record {
         holder = m;
         held = omega (arith, h.held, step.held m, low m, fits m);
-        part = subst (λ (t : Tree). IsPart t (tree_of b (Some m))) (sym same) part;
+        part = subst (λ (t : Tree). IsSubtree t (tree_of b (Some m))) (sym same) part;
         there = tree_there b k (get b k) refl (ap root_of same ∙ root);
       };
     }
 
-lent_of : (s : Slab Node) (besides : List (Option ℕ)) (m : ℕ) → owed m besides < held_of s m → (r : Option ℕ) → IsThere s r → IsPart (tree_of s r) (tree_of s (Some m)) → Lent s besides r
+lent_of : (s : Slab Node) (besides : List (Option ℕ)) (m : ℕ) → owed m besides < held_of s m → (r : Option ℕ) → IsThere s r → IsSubtree (tree_of s r) (tree_of s (Some m)) → Lent s besides r
 lent_of s besides m more None there part = tt
 lent_of s besides m more (Some k) there part = record { holder = m; held = more; part = part; there = there }
 
-pub record LinksLent (s : Slab Node) (besides : List (Option ℕ)) (p : Parts) : Type 0 where
+pub record LinksLent (s : Slab Node) (besides : List (Option ℕ)) (p : Body) : Type 0 where
   pub child : Lent s besides p.child
   pub left : Lent s besides p.left
   pub right : Lent s besides p.right
 
 -- what a lent node leads to is lent
-pub lent_links : (s : Slab Node) → IsSound s [] → (besides : List (Option ℕ)) (k : ℕ) → IsLent s besides (Some k) → (p : Parts) → parts_in (get s k) ≡ Some p → LinksLent s besides p
+pub lent_links : (s : Slab Node) → IsSound s [] → (besides : List (Option ℕ)) (k : ℕ) → IsLent s besides (Some k) → (p : Body) → body_in (get s k) ≡ Some p → LinksLent s besides p
 lent_links s sound besides k h p e =
     let there = links_there s sound k p e in
     let tree : tree_of s (Some k) ≡ some k p.span (tree_of s p.child) (tree_of s p.left) (tree_of s p.right) = tree_of-parts s sound k p e in
-    let whole : IsPart (some k p.span (tree_of s p.child) (tree_of s p.left) (tree_of s p.right)) (tree_of s (Some h.holder)) = subst (λ (t : Tree). IsPart t (tree_of s (Some h.holder))) tree h.part in
+    let whole : IsSubtree (some k p.span (tree_of s p.child) (tree_of s p.left) (tree_of s p.right)) (tree_of s (Some h.holder)) = subst (λ (t : Tree). IsSubtree t (tree_of s (Some h.holder))) tree h.part in
     record {
       child = lent_of s besides h.holder h.held p.child there.child (part_part _ _ _ (child k p.span _ _ _ self) whole);
       left = lent_of s besides h.holder h.held p.left there.left (part_part _ _ _ (left k p.span _ _ _ self) whole);
@@ -128,12 +128,12 @@ lent_held s besides None there room = tt
 lent_held s besides (Some k) there room = record { holder = k; held = omega (arith, room k, leads_same k); part = self; there = there }
 
 -- what a link's node says, of a store and a link that may be none
-pub record SeenAs (s : Slab Node) (root : Option ℕ) (p : Parts) : Type 0 where
+pub record SeenAs (s : Slab Node) (root : Option ℕ) (p : Body) : Type 0 where
   pub fork : fork_of (tree_of s root) ≡ Some (record { span = p.span; child = tree_of s p.child; left = tree_of s p.left; right = tree_of s p.right })
   pub level : level_of s root ≡ join_level (level_of s p.left) (item p.span (level_of s p.child) (level_of s p.right))
   pub links : LinksLent s [] p
 
-pub seen_as : (s : Slab Node) → IsSound s [] → (root : Option ℕ) → Lent s [] root → (p : Parts) → parts_in (at s root) ≡ Some p → SeenAs s root p
+pub seen_as : (s : Slab Node) → IsSound s [] → (root : Option ℕ) → Lent s [] root → (p : Body) → body_in (at s root) ≡ Some p → SeenAs s root p
 seen_as s sound None lent p e = absurd (cc e)
 seen_as s sound (Some k) lent p e = record {
   fork = ap fork_of (tree_of-parts s sound k p e);
@@ -147,9 +147,9 @@ unseen s None lent e = refl
 unseen s (Some k) lent e = let no : IsSome (get s k) = lent.there in absurd (cc (no, e))
 
 -- the same where the store goes by two names
-pub seen_in : (a b : Slab Node) → a ≡ b → IsSound a [] → (root : Option ℕ) → Lent b [] root → (p : Parts) → parts_in (at a root) ≡ Some p → SeenAs b root p
+pub seen_in : (a b : Slab Node) → a ≡ b → IsSound a [] → (root : Option ℕ) → Lent b [] root → (p : Body) → body_in (at a root) ≡ Some p → SeenAs b root p
 seen_in a b same sound root lent p e =
-    seen_as b (subst (λ (s : Slab Node). IsSound s []) same sound) root lent p (subst (λ (s : Slab Node). parts_in (at s root) ≡ Some p) same e)
+    seen_as b (subst (λ (s : Slab Node). IsSound s []) same sound) root lent p (subst (λ (s : Slab Node). body_in (at s root) ≡ Some p) same e)
 
 pub unseen_in : (a b : Slab Node) → a ≡ b → (root : Option ℕ) → Lent b [] root → at a root ≡ None → root ≡ None
 unseen_in a b same root lent e = unseen b root lent (subst (λ (s : Slab Node). at s root ≡ None) same e)

@@ -3,7 +3,7 @@ pub mod Unfolding
 pub mod Heights
 pub mod Reach
 pub mod Steps
-pub mod Sizes
+pub mod LevelSizes
 pub mod Lending
 pub mod Turning
 pub mod Totals

@@ -8,7 +8,7 @@ use Rattle.rx_tree.specs.Join.{join_level}
 use Rattle.rx_level.specs.Tree.{plain}
 use Rattle.rx_level.specs.Tree.Tree.{some}
 use Rattle.rx_tree.specs.Tree.Level.{end, item}
-use Rattle.rx_level.specs.Store.{IsThere, IsSound, IsWithinStore, bare, Parts, parts_in, held_in, held_of, leads, links_in, owed, tree_of}
+use Rattle.rx_level.specs.Store.{IsThere, IsSound, IsWithinStore, bare, Body, body_in, held_in, held_of, leads, links_in, owed, tree_of}
 use Rattle.rx_level.specs.Step.{Owns, Step, level_of}
 use Rattle.rx_level.proofs.Counts.{leads_same}
 use Rattle.rx_level.proofs.Unfolding.{tree_of_within, tree_of-node, link_there}
@@ -64,7 +64,7 @@ step_within old new spent given sound_new within held = record {
   keeps = λ m more. tree_of_within new old None [] sound_new within (Some m) (there_of new m (get new m) refl (omega (arith, more, held m)));
 }
 
-pub record HasParts (s : Slab Node) (k : ℕ) (p : Parts) : Type 0 where
+pub record HasParts (s : Slab Node) (k : ℕ) (p : Body) : Type 0 where
   pub node : Node
   pub is : get s k ≡ Some node
   pub span : node.span ≡ p.span
@@ -72,41 +72,41 @@ pub record HasParts (s : Slab Node) (k : ℕ) (p : Parts) : Type 0 where
   pub left : node.left ≡ p.left
   pub right : node.right ≡ p.right
 
-abbrev span_part : Option Parts → Option (Span)
+abbrev span_part : Option Body → Option (Span)
 span_part None = None
 span_part (Some p) = Some p.span
 
-parts_span : (q p : Parts) → Some q ≡ Some p → q.span ≡ p.span
+parts_span : (q p : Body) → Some q ≡ Some p → q.span ≡ p.span
 parts_span q p e = let h : Some q.span ≡ Some p.span = ap span_part e in cc h
 
-abbrev child_part : Option Parts → Option (Option ℕ)
+abbrev child_part : Option Body → Option (Option ℕ)
 child_part None = None
 child_part (Some p) = Some p.child
 
-parts_child : (q p : Parts) → Some q ≡ Some p → q.child ≡ p.child
+parts_child : (q p : Body) → Some q ≡ Some p → q.child ≡ p.child
 parts_child q p e = let h : Some q.child ≡ Some p.child = ap child_part e in cc h
 
-abbrev left_part : Option Parts → Option (Option ℕ)
+abbrev left_part : Option Body → Option (Option ℕ)
 left_part None = None
 left_part (Some p) = Some p.left
 
-parts_left : (q p : Parts) → Some q ≡ Some p → q.left ≡ p.left
+parts_left : (q p : Body) → Some q ≡ Some p → q.left ≡ p.left
 parts_left q p e = let h : Some q.left ≡ Some p.left = ap left_part e in cc h
 
-abbrev right_part : Option Parts → Option (Option ℕ)
+abbrev right_part : Option Body → Option (Option ℕ)
 right_part None = None
 right_part (Some p) = Some p.right
 
-parts_right : (q p : Parts) → Some q ≡ Some p → q.right ≡ p.right
+parts_right : (q p : Body) → Some q ≡ Some p → q.right ≡ p.right
 parts_right q p e = let h : Some q.right ≡ Some p.right = ap right_part e in cc h
 
-pub has_parts : (s : Slab Node) (k : ℕ) (p : Parts) (o : Option Node) → get s k ≡ o → parts_in o ≡ Some p → HasParts s k p
+pub has_parts : (s : Slab Node) (k : ℕ) (p : Body) (o : Option Node) → get s k ≡ o → body_in o ≡ Some p → HasParts s k p
 has_parts s k p None is e = absurd (cc e)
 has_parts s k p (Some v) is e =
     let same : Some (record { span = v.span; child = v.child; left = v.left; right = v.right }) ≡ Some p = e in
     record { node = v; is = is; span = parts_span _ p same; child = parts_child _ p same; left = parts_left _ p same; right = parts_right _ p same }
 
-pub tree_of-parts : (s : Slab Node) → IsSound s [] → (k : ℕ) (p : Parts) → parts_in (get s k) ≡ Some p → tree_of s (Some k) ≡ some k p.span (tree_of s p.child) (tree_of s p.left) (tree_of s p.right)
+pub tree_of-parts : (s : Slab Node) → IsSound s [] → (k : ℕ) (p : Body) → body_in (get s k) ≡ Some p → tree_of s (Some k) ≡ some k p.span (tree_of s p.child) (tree_of s p.left) (tree_of s p.right)
 tree_of-parts s sound k p e =
     let h = has_parts s k p (get s k) refl e in
     tree_of-node s None [] sound k h.node h.is ∙ (rw (h.span, h.child, h.left, h.right) refl)
@@ -120,20 +120,20 @@ pub there_onto : (old new : Slab Node) → IsWithinStore old new → (r : Option
 there_onto old new onto None there = tt
 there_onto old new onto (Some k) there = some_bare (get old k) (get new k) there (onto k there)
 
-pub level_of-parts : (s : Slab Node) → IsSound s [] → (k : ℕ) (p : Parts) → parts_in (get s k) ≡ Some p → level_of s (Some k) ≡ join_level (level_of s p.left) (item p.span (level_of s p.child) (level_of s p.right))
+pub level_of-parts : (s : Slab Node) → IsSound s [] → (k : ℕ) (p : Body) → body_in (get s k) ≡ Some p → level_of s (Some k) ≡ join_level (level_of s p.left) (item p.span (level_of s p.child) (level_of s p.right))
 level_of-parts s sound k p e = ap plain (tree_of-parts s sound k p e)
 
 -- the tree of what was there before a node came
 pub tree_onto : (old new : Slab Node) → IsSound old [] → IsWithinStore old new → (r : Option ℕ) → IsThere old r → tree_of new r ≡ tree_of old r
 tree_onto old new sound onto r there = sym (tree_of_within old new None [] sound onto r there)
 
-pub record LinksThere (s : Slab Node) (p : Parts) : Type 0 where
+pub record LinksThere (s : Slab Node) (p : Body) : Type 0 where
   pub child : IsThere s p.child
   pub left : IsThere s p.left
   pub right : IsThere s p.right
 
 -- what a node leads to is there
-pub links_there : (s : Slab Node) → IsSound s [] → (k : ℕ) (p : Parts) → parts_in (get s k) ≡ Some p → LinksThere s p
+pub links_there : (s : Slab Node) → IsSound s [] → (k : ℕ) (p : Body) → body_in (get s k) ≡ Some p → LinksThere s p
 links_there s sound k p e =
     let h = has_parts s k p (get s k) refl e in
     let inside : (m : ℕ) → links_in m (get s k) ≡ leads m p.child + leads m p.left + leads m p.right = (λ m. ap (links_in m) h.is ∙ (rw (h.child, h.left, h.right) refl)) in

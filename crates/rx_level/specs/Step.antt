@@ -35,17 +35,17 @@ abbrev pub tall_of : Slab Node → Option ℕ → ℕ
 tall_of s r = tall (tree_of s r)
 
 -- a tree that stands in another
-pub data IsPart (t : Tree) : Tree → Type 0 where
-  self : IsPart t t
-  child : (k : ℕ) (s : Span) (c l r : Tree) → IsPart t c → IsPart t (some k s c l r)
-  left : (k : ℕ) (s : Span) (c l r : Tree) → IsPart t l → IsPart t (some k s c l r)
-  right : (k : ℕ) (s : Span) (c l r : Tree) → IsPart t r → IsPart t (some k s c l r)
+pub data IsSubtree (t : Tree) : Tree → Type 0 where
+  self : IsSubtree t t
+  child : (k : ℕ) (s : Span) (c l r : Tree) → IsSubtree t c → IsSubtree t (some k s c l r)
+  left : (k : ℕ) (s : Span) (c l r : Tree) → IsSubtree t l → IsSubtree t (some k s c l r)
+  right : (k : ℕ) (s : Span) (c l r : Tree) → IsSubtree t r → IsSubtree t (some k s c l r)
 
 -- a link that stands in the tree of a handle, which is held besides those of the list
 pub record IsLent (s : Slab Node) (besides : List (Option ℕ)) (r : Option ℕ) : Type 0 where
   pub holder : ℕ
   pub held : owed holder besides < held_of s holder
-  pub part : IsPart (tree_of s r) (tree_of s (Some holder))
+  pub part : IsSubtree (tree_of s r) (tree_of s (Some holder))
   pub there : IsThere s r
 
 -- the link is none, or lent

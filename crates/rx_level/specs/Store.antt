@@ -111,16 +111,16 @@ bare None = None
 bare (Some v) = Some (record v { links = 0; held = 0 })
 
 -- what a node says for itself
-pub record Parts : Type 0 where
+pub record Body : Type 0 where
   pub span : Span
   pub child : Option ℕ
   pub left : Option ℕ
   pub right : Option ℕ
 
 -- a node's span and links
-abbrev pub parts_in : Option Node → Option Parts
-parts_in None = None
-parts_in (Some v) = Some (record { span = v.span; child = v.child; left = v.left; right = v.right })
+abbrev pub body_in : Option Node → Option Body
+body_in None = None
+body_in (Some v) = Some (record { span = v.span; child = v.child; left = v.left; right = v.right })
 
 -- each node of the first store is one of the second
 abbrev pub IsWithinStore : Slab Node → Slab Node → Type 0

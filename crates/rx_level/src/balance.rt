@@ -9,18 +9,19 @@ ghost use Rattle.rx_level.specs.Tree.{IsNear, IsHeight};
 ghost use Rattle.rx_level.specs.Step.{Owns, Step, level_of, tall_of, between};
 
 use crate::levels::Levels;
+use crate::links::Owned;
 use crate::trees::{Item, Opened};
 use std::alloc::AllocError;
 
 // The first item under the second. All handles are spent in every case.
 fn lean_left(
     levels: &mut Levels,
-    left: Option<usize>,
+    left: Owned,
     first: Item,
-    middle: Option<usize>,
+    middle: Owned,
     second: Item,
-    right: Option<usize>,
-) -> Result<Option<usize>, AllocError>
+    right: Owned,
+) -> Result<Owned, AllocError>
     requires owns { Owns levels.old (left ∷ first.child ∷ middle ∷ second.child ∷ right ∷ []) }
     requires inner { IsNear (tall_of levels.old left) (tall_of levels.old middle) }
     requires outer { IsNear (1 + max (tall_of levels.old left) (tall_of levels.old middle)) (tall_of levels.old right) }
@@ -46,12 +47,12 @@ fn lean_left(
 // The second item under the first. All handles are spent in every case.
 fn lean_right(
     levels: &mut Levels,
-    left: Option<usize>,
+    left: Owned,
     first: Item,
-    middle: Option<usize>,
+    middle: Owned,
     second: Item,
-    right: Option<usize>,
-) -> Result<Option<usize>, AllocError>
+    right: Owned,
+) -> Result<Owned, AllocError>
     requires owns { Owns levels.old (left ∷ first.child ∷ middle ∷ second.child ∷ right ∷ []) }
     requires inner { IsNear (tall_of levels.old middle) (tall_of levels.old right) }
     requires outer { IsNear (tall_of levels.old left) (1 + max (tall_of levels.old middle) (tall_of levels.old right)) }
@@ -78,12 +79,12 @@ fn lean_right(
 // in every case.
 fn lean_both(
     levels: &mut Levels,
-    left: Option<usize>,
+    left: Owned,
     first: Item,
     second: Opened,
     third: Item,
-    right: Option<usize>,
-) -> Result<Option<usize>, AllocError>
+    right: Owned,
+) -> Result<Owned, AllocError>
     requires owns { Owns levels.old (left ∷ first.child ∷ second.item.child ∷ second.left ∷ second.right ∷ third.child ∷ right ∷ []) }
     requires before { IsNear (tall_of levels.old left) (tall_of levels.old second.left) }
     requires after { IsNear (tall_of levels.old second.right) (tall_of levels.old right) }
@@ -113,10 +114,10 @@ fn lean_both(
 /// case. The error is want of memory.
 pub fn raise_left(
     levels: &mut Levels,
-    left: Option<usize>,
+    left: Owned,
     item: Item,
-    right: Option<usize>,
-) -> Result<Option<usize>, AllocError>
+    right: Owned,
+) -> Result<Owned, AllocError>
     requires owns { Owns levels.old (item.child ∷ left ∷ right ∷ []) }
     requires low { tall_of levels.old left ≤ tall_of levels.old right + 1 }
     requires high { tall_of levels.old right ≤ tall_of levels.old left + 2 }
@@ -149,12 +150,7 @@ pub fn raise_left(
 
 // An item before a level, one side of which is one higher than what stands before. All handles are spent
 // in every case.
-fn turn_left(
-    levels: &mut Levels,
-    left: Option<usize>,
-    item: Item,
-    top: Opened,
-) -> Result<Option<usize>, AllocError>
+fn turn_left(levels: &mut Levels, left: Owned, item: Item, top: Opened) -> Result<Owned, AllocError>
     requires owns { Owns levels.old (left ∷ item.child ∷ top.item.child ∷ top.left ∷ top.right ∷ []) }
     requires near { IsNear (tall_of levels.old top.left) (tall_of levels.old top.right) }
     requires height { max (tall_of levels.old top.left) (tall_of levels.old top.right) ≡ tall_of levels.old left + 1 }
@@ -192,10 +188,10 @@ fn turn_left(
 /// case. The error is want of memory.
 pub fn raise_right(
     levels: &mut Levels,
-    left: Option<usize>,
+    left: Owned,
     item: Item,
-    right: Option<usize>,
-) -> Result<Option<usize>, AllocError>
+    right: Owned,
+) -> Result<Owned, AllocError>
     requires owns { Owns levels.old (item.child ∷ left ∷ right ∷ []) }
     requires low { tall_of levels.old right ≤ tall_of levels.old left + 1 }
     requires high { tall_of levels.old left ≤ tall_of levels.old right + 2 }
@@ -232,8 +228,8 @@ fn turn_right(
     levels: &mut Levels,
     top: Opened,
     item: Item,
-    right: Option<usize>,
-) -> Result<Option<usize>, AllocError>
+    right: Owned,
+) -> Result<Owned, AllocError>
     requires owns { Owns levels.old (right ∷ item.child ∷ top.item.child ∷ top.left ∷ top.right ∷ []) }
     requires near { IsNear (tall_of levels.old top.left) (tall_of levels.old top.right) }
     requires height { max (tall_of levels.old top.left) (tall_of levels.old top.right) ≡ tall_of levels.old right + 1 }

@@ -8,7 +8,7 @@ ghost use Rattle.rx_level.specs.Step.{Owns, Step, level_of};
 
 use crate::joining::join;
 use crate::levels::Levels;
-use crate::spans::copy_span;
+use crate::links::Owned;
 use crate::trees::Item;
 use rx_value::Span;
 use std::alloc::{AllocError, Global};
@@ -19,7 +19,7 @@ pub fn build(
     alloc: Global,
     part: u32,
     spans: &[Span],
-) -> Result<Option<usize>, AllocError>
+) -> Result<Owned, AllocError>
     requires { IsSound levels.old [] }
     ensures ok { IfOk result (λ r. Step levels.old levels.new [] (r ∷ [])) }
     ensures level { IfOk result (λ r. level_of levels.new r ≡ items_of spans.now) }
@@ -30,7 +30,7 @@ pub fn build(
         return Ok(None);
     }
     let middle = count / 2;
-    let span = copy_span(alloc, &spans[middle])?;
+    let span = spans[middle].copy(alloc)?;
     let left = build(levels, alloc, part, &spans[..middle])?;
     match build(levels, alloc, part, &spans[middle + 1..]) {
         Ok(right) => {

@@ -10,17 +10,13 @@ ghost use Rattle.rx_level.specs.Step.{Owns, Step, level_of, tall_of, between};
 
 use crate::balance::{raise_left, raise_right};
 use crate::levels::Levels;
+use crate::links::Owned;
 use crate::trees::Item;
 use std::alloc::AllocError;
 
 /// An item between two levels of any heights. The three handles are spent in every case. The error is
 /// want of memory.
-pub fn join(
-    levels: &mut Levels,
-    left: Option<usize>,
-    item: Item,
-    right: Option<usize>,
-) -> Result<Option<usize>, AllocError>
+pub fn join(levels: &mut Levels, left: Owned, item: Item, right: Owned) -> Result<Owned, AllocError>
     requires { Owns levels.old (item.child ∷ left ∷ right ∷ []) }
     ensures ok { IfOk result (λ r. Step levels.old levels.new (item.child ∷ left ∷ right ∷ []) (r ∷ [])) }
     ensures level { IfOk result (λ r. level_of levels.new r ≡ between levels.old left item right) }
@@ -38,10 +34,10 @@ pub fn join(
 // An item between a level and a higher one, which is taken apart as far as it is higher.
 fn sink_left(
     levels: &mut Levels,
-    left: Option<usize>,
+    left: Owned,
     item: Item,
-    right: Option<usize>,
-) -> Result<Option<usize>, AllocError>
+    right: Owned,
+) -> Result<Owned, AllocError>
     requires owns { Owns levels.old (item.child ∷ left ∷ right ∷ []) }
     requires low { tall_of levels.old left ≤ tall_of levels.old right + 1 }
     ensures ok { IfOk result (λ r. Step levels.old levels.new (item.child ∷ left ∷ right ∷ []) (r ∷ [])) }
@@ -81,10 +77,10 @@ fn sink_left(
 // An item between a level, which is taken apart as far as it is higher, and a lower one.
 fn sink_right(
     levels: &mut Levels,
-    left: Option<usize>,
+    left: Owned,
     item: Item,
-    right: Option<usize>,
-) -> Result<Option<usize>, AllocError>
+    right: Owned,
+) -> Result<Owned, AllocError>
     requires owns { Owns levels.old (item.child ∷ left ∷ right ∷ []) }
     requires low { tall_of levels.old right ≤ tall_of levels.old left + 1 }
     ensures ok { IfOk result (λ r. Step levels.old levels.new (item.child ∷ left ∷ right ∷ []) (r ∷ [])) }
@@ -125,7 +121,7 @@ fn sink_right(
 #[derive(Drop)]
 pub struct First {
     pub item: Item,
-    pub rest: Option<usize>,
+    pub rest: Owned,
 }
 
 /// Takes the first item off a level, whose handle is spent in every case. The error is want of memory.
@@ -166,11 +162,7 @@ pub fn take_first(levels: &mut Levels, key: usize) -> Result<First, AllocError>
 
 /// The items of one level, then those of the other. Both handles are spent in every case. The error is
 /// want of memory.
-pub fn append(
-    levels: &mut Levels,
-    left: Option<usize>,
-    right: Option<usize>,
-) -> Result<Option<usize>, AllocError>
+pub fn append(levels: &mut Levels, left: Owned, right: Owned) -> Result<Owned, AllocError>
     requires { Owns levels.old (left ∷ right ∷ []) }
     ensures ok { IfOk result (λ r. Step levels.old levels.new (left ∷ right ∷ []) (r ∷ [])) }
     ensures level { IfOk result (λ r. level_of levels.new r ≡ join_level (level_of levels.old left) (level_of levels.old right)) }

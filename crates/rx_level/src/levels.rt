@@ -11,6 +11,7 @@ ghost use Rattle.rx_level.specs.Under.{IsNumberUnder, IsUnder};
 ghost use Rattle.rx_level.specs.Standing.{IsAtOneDepth, StandsIn};
 ghost use Rattle.rx_level.specs.Step.{Owns, Step, Lent, level_of, tall_of, between};
 
+use crate::links::{Link, Owned};
 use crate::marking::count_under;
 use crate::nodes::{self, Node};
 use crate::trees::{self, Item, Opened, Seen};
@@ -82,21 +83,21 @@ impl Levels {
     }
 
     /// How many items a level has.
-    pub fn count(&self, root: Option<usize>) -> u64
+    pub fn count(&self, root: Link) -> u64
         ensures { result ≡ length_of (level_of self.now root) }
     {
         nodes::numbers_at(&self.nodes, root).count
     }
 
     /// How many items a level and all below it have, those of a shared one counted at each place.
-    pub fn size(&self, root: Option<usize>) -> u64
+    pub fn size(&self, root: Link) -> u64
         ensures { result ≡ level_size (level_of self.now root) }
     {
         nodes::numbers_at(&self.nodes, root).size
     }
 
     /// The height of a level's tree.
-    pub fn height(&self, root: Option<usize>) -> u64
+    pub fn height(&self, root: Link) -> u64
         ensures { result ≡ tall_of self.now root }
     {
         nodes::numbers_at(&self.nodes, root).height
@@ -104,7 +105,7 @@ impl Levels {
 
     /// How many different items a level is made of, those of all levels below it among them. The error is
     /// want of memory.
-    pub fn reached(&self, root: Option<usize>) -> Result<u64, AllocError>
+    pub fn reached(&self, root: Link) -> Result<u64, AllocError>
         ensures { IfOk result (λ n. IsNumberUnder self.now root n) }
     {
         let mut marks = vec![in self.alloc; false; self.nodes.capacity()]?;
@@ -113,7 +114,7 @@ impl Levels {
 
     /// The topmost item of a lent level, with what it leads to, which stays lent. None where the level
     /// has no items.
-    pub fn look(&self, root: Option<usize>) -> Option<Seen<'_>>
+    pub fn look(&self, root: Link) -> Option<Seen<'_>>
         requires { Lent self.now [] root }
         ensures fork { IfSome result (λ o. fork_of (tree_of self.now root) ≡ Some (record { span = o.span.now; child = tree_of self.now o.child; left = tree_of self.now o.left; right = tree_of self.now o.right })) }
         ensures level { IfSome result (λ o. level_of self.now root ≡ join_level (level_of self.now o.left) (item o.span.now (level_of self.now o.child) (level_of self.now o.right))) }
@@ -127,7 +128,7 @@ impl Levels {
     }
 
     /// A handle more of a level that is held.
-    pub fn share(&mut self, root: Option<usize>)
+    pub fn share(&mut self, root: Link)
         requires held { (m : ℕ) → leads m root ≤ held_of self.old m }
         requires few { total_held self.old < 2 ^ 64 - 1 }
         ensures step { Step self.old self.new [] (root ∷ []) }
@@ -138,7 +139,7 @@ impl Levels {
     }
 
     /// A handle more of what is lent. The error is want of memory.
-    pub fn hold(&mut self, root: Option<usize>) -> Result<(), AllocError>
+    pub fn hold(&mut self, root: Link) -> Result<(), AllocError>
         requires { Lent self.old [] root }
         ensures ok { OnOk result (Step self.old self.new [] (root ∷ [])) }
         ensures err { OnErr result (self.new ≡ self.old) }
@@ -153,7 +154,7 @@ impl Levels {
     }
 
     /// A handle is spent.
-    pub fn free(&mut self, root: Option<usize>)
+    pub fn free(&mut self, root: Owned)
         requires { Owns self.old (root ∷ []) }
         ensures step { Step self.old self.new (root ∷ []) [] }
         ensures live { slab_len self.new ≤ slab_len self.old }
@@ -165,12 +166,7 @@ impl Levels {
     /// An item between two levels of near heights. The three handles are spent in every case. The error
     /// is want of memory; a child that isn't of the next part, or a level that isn't of the item's own part,
     /// which no caller gives, is answered the same.
-    pub fn branch(
-        &mut self,
-        item: Item,
-        left: Option<usize>,
-        right: Option<usize>,
-    ) -> Result<Option<usize>, AllocError>
+    pub fn branch(&mut self, item: Item, left: Owned, right: Owned) -> Result<Owned, AllocError>
         requires owns { Owns self.old (item.child ∷ left ∷ right ∷ []) }
         requires near { IsNear (tall_of self.old left) (tall_of self.old right) }
         ensures ok { IfOk result (λ r. Step self.old self.new (item.child ∷ left ∷ right ∷ []) (r ∷ [])) }
@@ -225,7 +221,7 @@ impl Levels {
 }
 
 // 1 where the link leads somewhere.
-fn root_count(root: Option<usize>) -> u64
+fn root_count(root: Link) -> u64
     ensures { result ≡ root_in root }
 {
     match root {

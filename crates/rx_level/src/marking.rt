@@ -5,12 +5,13 @@ ghost use Rattle.std.specs.List.{count_by};
 ghost use Rattle.rx_level.specs.Store.{IsSound};
 ghost use Rattle.rx_level.specs.Under.{IsClosed, IsMarking, IsNumberUnder};
 
+use crate::links::Link;
 use crate::nodes::Node;
 use slab::Slab;
 
 // Marks each node that a link leads to, at once or over links. What a marked node leads to is marked
 // already.
-fn mark(nodes: &Slab<Node>, marks: &mut [bool], root: Option<usize>)
+fn mark(nodes: &Slab<Node>, marks: &mut [bool], root: Link)
     requires sound { IsSound nodes.now [] }
     requires long { length nodes.now.slots ≤ length marks.old }
     requires closed { IsClosed nodes.now marks.old }
@@ -39,7 +40,7 @@ fn count_marks(marks: &[bool]) -> u64
 }
 
 /// How many nodes a link leads to, at once or over links. No node is marked before.
-pub fn count_under(nodes: &Slab<Node>, marks: &mut [bool], root: Option<usize>) -> u64
+pub fn count_under(nodes: &Slab<Node>, marks: &mut [bool], root: Link) -> u64
     requires sound { IsSound nodes.now [] }
     requires long { length nodes.now.slots ≤ length marks.old }
     requires unmarked { (m : ℕ) → get_or marks.old m false ≡ false }

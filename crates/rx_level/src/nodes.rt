@@ -3,8 +3,9 @@
 ghost use Rattle.std.specs.Prelude.{◌≡◌, ◌<◌, ◌≤◌, ◌+◌, ◌-◌, ◌^◌, ℕ, List, [], ◌∷◌, Option, Some, None, IfSome, IfOk, OnOk, OnErr, IsTrue, max};
 ghost use Rattle.slab.specs.Slab.{get, slab_len};
 ghost use Rattle.rx_level.specs.Tree.{IsNear};
-ghost use Rattle.rx_level.specs.Store.{IsSound, IsWithinStore, held_of, linked_in, leads, owed, rank_of, height_of, count_of, size_of, part_in, parts_in, IsAt, Parts};
+ghost use Rattle.rx_level.specs.Store.{IsSound, IsWithinStore, held_of, linked_in, leads, owed, rank_of, height_of, count_of, size_of, part_in, body_in, IsAt, Body};
 
+use crate::links::{Link, Owned};
 use crate::uses;
 use rx_value::Span;
 use slab::Slab;
@@ -17,9 +18,9 @@ pub struct Node {
     pub part: u32,
     pub span: Span,
     /// The level of the next part, none where the item holds all keys.
-    pub child: Option<usize>,
-    pub left: Option<usize>,
-    pub right: Option<usize>,
+    pub child: Link,
+    pub left: Link,
+    pub right: Link,
     /// The longest way down over child, left and right.
     pub rank: u64,
     /// The longest way down over left and right.
@@ -44,7 +45,7 @@ pub struct Numbers {
 }
 
 /// The numbers of a link, 0 where it leads nowhere.
-pub fn numbers_at(nodes: &Slab<Node>, root: Option<usize>) -> Numbers
+pub fn numbers_at(nodes: &Slab<Node>, root: Link) -> Numbers
     ensures rank { result.rank ≡ rank_of nodes.now root }
     ensures height { result.height ≡ height_of nodes.now root }
     ensures count { result.count ≡ count_of nodes.now root }
@@ -69,12 +70,7 @@ pub fn numbers_at(nodes: &Slab<Node>, root: Option<usize>) -> Numbers
 }
 
 // The numbers of a node over these links, if they fit.
-fn numbers_over(
-    nodes: &Slab<Node>,
-    child: Option<usize>,
-    left: Option<usize>,
-    right: Option<usize>,
-) -> Option<Numbers>
+fn numbers_over(nodes: &Slab<Node>, child: Link, left: Link, right: Link) -> Option<Numbers>
     ensures child { IfSome result (λ n. rank_of nodes.now child < n.rank) }
     ensures left { IfSome result (λ n. rank_of nodes.now left < n.rank) }
     ensures right { IfSome result (λ n. rank_of nodes.now right < n.rank) }
@@ -99,7 +95,7 @@ fn numbers_over(
 }
 
 // The link is none, or leads to a node of this part.
-fn is_at(nodes: &Slab<Node>, part: u64, root: Option<usize>) -> bool
+fn is_at(nodes: &Slab<Node>, part: u64, root: Link) -> bool
     ensures { IsTrue result → IsAt nodes.now part root }
 {
     let Some(key) = root else {
@@ -113,13 +109,7 @@ fn is_at(nodes: &Slab<Node>, part: u64, root: Option<usize>) -> bool
 
 // The links are of the parts that a node of this part may lead to: its child is of the next part, and its
 // sides are of its own.
-fn fits(
-    nodes: &Slab<Node>,
-    part: u32,
-    child: Option<usize>,
-    left: Option<usize>,
-    right: Option<usize>,
-) -> bool
+fn fits(nodes: &Slab<Node>, part: u32, child: Link, left: Link, right: Link) -> bool
     ensures child { IsTrue result → IsAt nodes.now (part + 1) child }
     ensures left { IsTrue result → IsAt nodes.now part left }
     ensures right { IsTrue result → IsAt nodes.now part right }
@@ -133,13 +123,13 @@ fn add(
     nodes: &mut Slab<Node>,
     part: u32,
     span: Span,
-    child: Option<usize>,
-    left: Option<usize>,
-    right: Option<usize>,
+    child: Link,
+    left: Link,
+    right: Link,
 ) -> Result<usize, AllocError>
     requires near { IsNear (height_of nodes.old left) (height_of nodes.old right) }
     ensures sound { OnOk result ((rest : List (Option ℕ)) → IsSound nodes.old (child ∷ left ∷ right ∷ rest) → IsSound nodes.new rest) }
-    ensures made { IfOk result (λ k. parts_in (get nodes.new k) ≡ Some (record { span = span; child = child; left = left; right = right })) }
+    ensures made { IfOk result (λ k. body_in (get nodes.new k) ≡ Some (record { span = span; child = child; left = left; right = right })) }
     ensures part { IfOk result (λ k. part_in (get nodes.new k) ≡ part) }
     ensures fresh { IfOk result (λ k. get nodes.old k ≡ None) }
     ensures held { IfOk result (λ k. (m : ℕ) → held_of nodes.new m ≡ held_of nodes.old m + leads m (Some k)) }
@@ -175,7 +165,7 @@ fn add(
 }
 
 // Three links more fit.
-fn has_room(nodes: &Slab<Node>, root: Option<usize>) -> bool
+fn has_room(nodes: &Slab<Node>, root: Link) -> bool
     ensures { IsTrue result → (m : ℕ) → 0 < leads m root → linked_in (get nodes.now m) < 2 ^ 64 - 3 }
 {
     match root {
@@ -190,14 +180,14 @@ pub fn make(
     nodes: &mut Slab<Node>,
     part: u32,
     span: Span,
-    child: Option<usize>,
-    left: Option<usize>,
-    right: Option<usize>,
+    child: Owned,
+    left: Owned,
+    right: Owned,
 ) -> Result<usize, AllocError>
     requires near { IsNear (height_of nodes.old left) (height_of nodes.old right) }
     requires owned { (m : ℕ) → owed m (child ∷ left ∷ right ∷ []) ≤ held_of nodes.old m }
     ensures sound { (rest : List (Option ℕ)) → IsSound nodes.old rest → IsSound nodes.new rest }
-    ensures made { IfOk result (λ k. parts_in (get nodes.new k) ≡ Some (record { span = span; child = child; left = left; right = right })) }
+    ensures made { IfOk result (λ k. body_in (get nodes.new k) ≡ Some (record { span = span; child = child; left = left; right = right })) }
     ensures part { IfOk result (λ k. part_in (get nodes.new k) ≡ part) }
     ensures fresh { IfOk result (λ k. get nodes.old k ≡ None) }
     ensures ok_held { IfOk result (λ k. (m : ℕ) → held_of nodes.new m + owed m (child ∷ left ∷ right ∷ []) ≡ held_of nodes.old m + leads m (Some k)) }

@@ -6,6 +6,7 @@ ghost use Rattle.rx_level.specs.Entries.{Entry, entry_at};
 ghost use Rattle.rx_level.specs.Step.{Lent, level_of};
 
 use crate::levels::Levels;
+use crate::links::Link;
 use rx_value::{End, Span, compare_ends};
 use std::cmp::Ordering;
 
@@ -13,11 +14,11 @@ use std::cmp::Ordering;
 #[derive(Clone, Copy)]
 pub struct Found<'a> {
     pub span: &'a Span,
-    pub child: Option<usize>,
+    pub child: Link,
 }
 
 /// The item of a lent level at a place, counted from 0. None where the level has no more items.
-pub fn find<'a>(levels: &'a Levels, root: Option<usize>, place: u64) -> Option<Found<'a>>
+pub fn find<'a>(levels: &'a Levels, root: Link, place: u64) -> Option<Found<'a>>
     requires { Lent levels.now [] root }
     ensures some { IfSome result (λ f. entry_at place (level_of levels.now root) ≡ Some (record { span = f.span.now; below = level_of levels.now f.child })) }
     ensures child { IfSome result (λ f. Lent levels.now [] f.child) }
@@ -39,7 +40,7 @@ pub fn find<'a>(levels: &'a Levels, root: Option<usize>, place: u64) -> Option<F
 
 /// Whether two lent levels have the same items with the same levels below.
 #[cycle(same)]
-pub fn same_levels(levels: &Levels, g: Option<usize>, h: Option<usize>) -> bool
+pub fn same_levels(levels: &Levels, g: Link, h: Link) -> bool
     requires g { Lent levels.now [] g }
     requires h { Lent levels.now [] h }
     ensures { IsTrue result ↔ (level_of levels.now g ≡ level_of levels.now h) }
@@ -61,7 +62,7 @@ pub fn same_levels(levels: &Levels, g: Option<usize>, h: Option<usize>) -> bool
 
 // Whether two lent levels have the same item at a place.
 #[cycle(same)]
-fn same_items(levels: &Levels, g: Option<usize>, h: Option<usize>, place: u64) -> bool
+fn same_items(levels: &Levels, g: Link, h: Link, place: u64) -> bool
     requires g { Lent levels.now [] g }
     requires h { Lent levels.now [] h }
     ensures { IsTrue result ↔ (entry_at place (level_of levels.now g) ≡ entry_at place (level_of levels.now h)) }

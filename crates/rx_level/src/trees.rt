@@ -6,11 +6,11 @@ ghost use Rattle.rx_tree.specs.Tree.{Level};
 ghost use Rattle.rx_tree.specs.Join.{join_level};
 ghost use Rattle.rx_tree.specs.Tree.Level.{item};
 ghost use Rattle.rx_level.specs.Tree.{fork_of, Fork, IsNear};
-ghost use Rattle.rx_level.specs.Store.{IsSound, IsThere, at, held_of, leads, part_of, parts_in, Parts, tree_of};
+ghost use Rattle.rx_level.specs.Store.{IsSound, IsThere, at, held_of, leads, part_of, body_in, Body, tree_of};
 ghost use Rattle.rx_level.specs.Step.{Owns, Step, level_of, tall_of};
 
+use crate::links::{Link, Owned};
 use crate::nodes::{self, Node};
-use crate::spans::copy_span;
 use crate::uses;
 use rx_value::Span;
 use slab::Slab;
@@ -22,15 +22,15 @@ pub struct Item {
     /// The part, counted from 0, whose positions the span is of.
     pub part: u32,
     pub span: Span,
-    pub child: Option<usize>,
+    pub child: Owned,
 }
 
 /// A node's own item, and the items to its left and right.
 #[derive(Drop)]
 pub struct Opened {
     pub item: Item,
-    pub left: Option<usize>,
-    pub right: Option<usize>,
+    pub left: Owned,
+    pub right: Owned,
 }
 
 /// A node's own item as it stands in the store, and what it leads to.
@@ -39,9 +39,9 @@ pub struct Seen<'a> {
     /// The part, counted from 0, whose positions the span is of.
     pub part: u32,
     pub span: &'a Span,
-    pub child: Option<usize>,
-    pub left: Option<usize>,
-    pub right: Option<usize>,
+    pub child: Link,
+    pub left: Link,
+    pub right: Link,
 }
 
 /// One more item between two levels of near heights. The three handles are spent in every case. The
@@ -51,9 +51,9 @@ pub fn branch(
     nodes: &mut Slab<Node>,
     part: u32,
     span: Span,
-    child: Option<usize>,
-    left: Option<usize>,
-    right: Option<usize>,
+    child: Owned,
+    left: Owned,
+    right: Owned,
 ) -> Result<usize, AllocError>
     requires owns { Owns nodes.old (child ∷ left ∷ right ∷ []) }
     requires near { IsNear (tall_of nodes.old left) (tall_of nodes.old right) }
@@ -71,7 +71,7 @@ pub fn branch(
 }
 
 /// A handle is spent.
-pub fn free(nodes: &mut Slab<Node>, root: Option<usize>)
+pub fn free(nodes: &mut Slab<Node>, root: Owned)
     requires { Owns nodes.old (root ∷ []) }
     ensures step { Step nodes.old nodes.new (root ∷ []) [] }
     ensures live { slab_len nodes.new ≤ slab_len nodes.old }
@@ -80,7 +80,7 @@ pub fn free(nodes: &mut Slab<Node>, root: Option<usize>)
 }
 
 /// A handle more, where the count fits.
-pub fn share(nodes: &mut Slab<Node>, root: Option<usize>)
+pub fn share(nodes: &mut Slab<Node>, root: Link)
     requires sound { IsSound nodes.old [] }
     requires few { (m : ℕ) → 0 < leads m root → held_of nodes.old m < 2 ^ 64 - 1 }
     requires there { IsThere nodes.old root }
@@ -93,8 +93,8 @@ pub fn share(nodes: &mut Slab<Node>, root: Option<usize>)
 }
 
 /// What the node of a link says, none where there is no node.
-pub fn see<'a>(nodes: &'a Slab<Node>, root: Option<usize>) -> Option<Seen<'a>>
-    ensures some { IfSome result (λ o. parts_in (at nodes.now root) ≡ Some (record { span = o.span.now; child = o.child; left = o.left; right = o.right })) }
+pub fn see<'a>(nodes: &'a Slab<Node>, root: Link) -> Option<Seen<'a>>
+    ensures some { IfSome result (λ o. body_in (at nodes.now root) ≡ Some (record { span = o.span.now; child = o.child; left = o.left; right = o.right })) }
     ensures part { IfSome result (λ o. o.part ≡ part_of nodes.now root) }
     ensures none { IfNone result (at nodes.now root ≡ None) }
 {
@@ -113,12 +113,12 @@ pub fn see<'a>(nodes: &'a Slab<Node>, root: Option<usize>) -> Option<Seen<'a>>
 
 // What a node says, its span copied. The error is want of memory.
 fn read(nodes: &Slab<Node>, alloc: Global, key: usize) -> Result<Opened, AllocError>
-    ensures { IfOk result (λ o. parts_in (get nodes.now key) ≡ Some (record { span = o.item.span; child = o.item.child; left = o.left; right = o.right })) }
+    ensures { IfOk result (λ o. body_in (get nodes.now key) ≡ Some (record { span = o.item.span; child = o.item.child; left = o.left; right = o.right })) }
 {
     let Some(node) = nodes.get(key) else {
         return Err(AllocError);
     };
-    let span = copy_span(alloc, &node.span)?;
+    let span = node.span.copy(alloc)?;
     let child = node.child;
     let part = node.part;
     Ok(Opened {

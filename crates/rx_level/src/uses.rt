@@ -5,15 +5,16 @@ ghost use Rattle.slab.specs.Slab.{get, slab_len, Updates};
 ghost use Rattle.rx_level.specs.declared.nodes.Node.{Node as node};
 ghost use Rattle.rx_level.specs.Store.{IsSound, IsNearly, IsWithinStore, held_of, linked_in, leads, IsThere};
 
+use crate::links::{Link, Owned};
 use crate::nodes::Node;
 use slab::Slab;
 
 /// The links of a node that is gone.
 #[derive(Clone, Copy, Drop)]
 pub struct Links {
-    pub child: Option<usize>,
-    pub left: Option<usize>,
-    pub right: Option<usize>,
+    pub child: Link,
+    pub left: Link,
+    pub right: Link,
 }
 
 /// How many links lead to a node, and how many handles.
@@ -84,7 +85,7 @@ fn is_unused(nodes: &Slab<Node>, key: usize) -> bool
 }
 
 // One link fewer leads to a node; the links that it leaves if it goes.
-fn drop_link(nodes: &mut Slab<Node>, root: Option<usize>) -> Option<Links>
+fn drop_link(nodes: &mut Slab<Node>, root: Link) -> Option<Links>
     ensures some { IfSome result (λ w. (rest : List (Option ℕ)) → IsSound nodes.old (root ∷ rest) → IsSound nodes.new (w.child ∷ w.left ∷ w.right ∷ rest)) }
     ensures none { IfNone result ((rest : List (Option ℕ)) → IsSound nodes.old (root ∷ rest) → IsSound nodes.new rest) }
     ensures within { IsWithinStore nodes.new nodes.old }
@@ -123,7 +124,7 @@ fn lower_links(nodes: &mut Slab<Node>, key: usize) -> bool
 }
 
 /// One link fewer leads to a node; what nothing uses then goes, and what it alone led to.
-pub(crate) fn unlink(nodes: &mut Slab<Node>, root: Option<usize>)
+pub(crate) fn unlink(nodes: &mut Slab<Node>, root: Link)
     ensures sound { (rest : List (Option ℕ)) → IsSound nodes.old (root ∷ rest) → IsSound nodes.new rest }
     ensures within { IsWithinStore nodes.new nodes.old }
     ensures held { (m : ℕ) → held_of nodes.new m ≡ held_of nodes.old m }
@@ -137,7 +138,7 @@ pub(crate) fn unlink(nodes: &mut Slab<Node>, root: Option<usize>)
 }
 
 /// One handle fewer leads to a node; what nothing uses then goes, and what it alone led to.
-pub fn release(nodes: &mut Slab<Node>, root: Option<usize>)
+pub fn release(nodes: &mut Slab<Node>, root: Owned)
     requires { (m : ℕ) → leads m root ≤ held_of nodes.old m }
     ensures sound { (rest : List (Option ℕ)) → IsSound nodes.old rest → IsSound nodes.new rest }
     ensures within { IsWithinStore nodes.new nodes.old }
@@ -174,7 +175,7 @@ fn lower_held(nodes: &mut Slab<Node>, key: usize)
 }
 
 /// One handle more leads to a node that is there.
-pub fn hold(nodes: &mut Slab<Node>, root: Option<usize>)
+pub fn hold(nodes: &mut Slab<Node>, root: Link)
     requires few { (m : ℕ) → 0 < leads m root → held_of nodes.old m < 2 ^ 64 - 1 }
     requires there { IsThere nodes.old root }
     ensures sound { (rest : List (Option ℕ)) → IsSound nodes.old rest → IsSound nodes.new rest }
@@ -209,7 +210,7 @@ fn raise_held(nodes: &mut Slab<Node>, key: usize)
 }
 
 // A handle becomes a link that is owed.
-pub(crate) fn adopt(nodes: &mut Slab<Node>, root: Option<usize>)
+pub(crate) fn adopt(nodes: &mut Slab<Node>, root: Owned)
     requires owned { (m : ℕ) → leads m root ≤ held_of nodes.old m }
     requires few { (m : ℕ) → 0 < leads m root → linked_in (get nodes.old m) < 2 ^ 64 - 1 }
     ensures sound { (rest : List (Option ℕ)) → IsSound nodes.old rest → IsSound nodes.new (root ∷ rest) }

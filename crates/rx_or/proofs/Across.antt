@@ -5,17 +5,17 @@ use Rattle.std.specs.declared.cmp.Ordering.TheVariants.{Less, Equal, Greater}
 use Rattle.rx_value.specs.declared.order.End.{End}
 use Rattle.rx_value.specs.declared.order.Span.{Span}
 use Rattle.rx_value.specs.Order.{end_cmp, is_at_most}
-use Rattle.rx_value.specs.Spans.{IsAtMost, IsBelow, IsSpan, is_inside, later, earlier}
+use Rattle.rx_value.specs.Spans.{IsAtMost, IsBelow, IsSpan, is_inside, later, earlier, first_end}
 use Rattle.rx_value.proofs.Ends.{at_most-same, at_most-trans, at_most-from_equal, at_most-from_greater, below-at_most, below-from_less, end_cmp-equal}
 use Rattle.rx_value.proofs.Meeting.{later_at_most, earlier_at_most}
-use Rattle.rx_tree.specs.Tree.{Level, first_of}
+use Rattle.rx_tree.specs.Tree.{Level}
 use Rattle.rx_tree.specs.Tree.Level.{end, item}
 use Rattle.rx_tree.specs.Join.{join_level}
 use Rattle.rx_tree.specs.Member.{IsTuple, level_holds, child_holds}
 use Rattle.rx_tree.specs.Canonical.{BeginsFrom, ArePlaced}
-use Rattle.rx_tree.specs.Meet.{part_of, put_part}
+use Rattle.rx_tree.specs.Meet.{piece_of, put_piece}
 use Rattle.rx_tree.specs.Weld.{weld, glue, EndsBy}
-use Rattle.rx_tree.specs.Union.{between, overlaid, lay, either_child}
+use Rattle.rx_tree.specs.Union.{piece_between, overlaid, lay, either_child}
 use Rattle.rx_tree.proofs.Welding.{Follows, weld_ends, begins_later, glue_placed, glue_holds}
 use Rattle.rx_tree.proofs.Intersection.{IsChild}
 use Rattle.rx_tree.proofs.Laying.{MayStand, Stands, between_placed, between_begins, between_holds}
@@ -50,47 +50,47 @@ pub record Reaches (n : Bool) (ns : List Bool) (s t : Span) (c d : Level) : Type
   pub second : IsSpan t
   pub reaches : IsAtMost s.lo t.hi
   pub reached : IsAtMost t.lo s.hi
-  pub from : IsAtMost (first_of n) s.lo
-  pub from_second : IsAtMost (first_of n) t.lo
+  pub from : IsAtMost (first_end n) s.lo
+  pub from_second : IsAtMost (first_end n) t.lo
   pub child : IsChild ns c
   pub below : IsChild ns d
 
 -- what the second has alone behind the first
 back_stands : (n : Bool) (ns : List Bool) (s t : Span) (c d rest : Level) → Reaches n ns s t c d → Stands n ns t.hi rest → MayStand n ns s.hi t.hi d rest
-back_stands n ns s t c d rest o r = record { from = at_most-trans (first_of n) s.lo s.hi o.from (below-at_most s.lo s.hi o.first); rises = r.begins; child = o.below; after = r.placed }
+back_stands n ns s t c d rest o r = record { from = at_most-trans (first_end n) s.lo s.hi o.from (below-at_most s.lo s.hi o.first); rises = r.begins; child = o.below; after = r.placed }
 
-back_begins : (n : Bool) (ns : List Bool) (e : End) (s t : Span) (d rest : Level) → IsAtMost e s.hi → IsAtMost e t.hi → Stands n ns t.hi rest → BeginsFrom e (between s.hi t.hi d rest)
+back_begins : (n : Bool) (ns : List Bool) (e : End) (s t : Span) (d rest : Level) → IsAtMost e s.hi → IsAtMost e t.hi → Stands n ns t.hi rest → BeginsFrom e (piece_between s.hi t.hi d rest)
 back_begins n ns e s t d rest low high r = between_begins e s.hi t.hi d rest low (begins_later e t.hi rest high r.begins)
 
 -- what both have
-middle_stands : (n : Bool) (ns : List Bool) (s t : Span) (c d both rest : Level) → Reaches n ns s t c d → IsChild ns both → Stands n ns t.hi rest → MayStand n ns (later s.lo t.lo) (earlier s.hi t.hi) both (between s.hi t.hi d rest)
+middle_stands : (n : Bool) (ns : List Bool) (s t : Span) (c d both rest : Level) → Reaches n ns s t c d → IsChild ns both → Stands n ns t.hi rest → MayStand n ns (later s.lo t.lo) (earlier s.hi t.hi) both (piece_between s.hi t.hi d rest)
 middle_stands n ns s t c d both rest o child r = record {
-  from = at_most-trans (first_of n) s.lo (later s.lo t.lo) o.from (later_first s.lo t.lo);
+  from = at_most-trans (first_end n) s.lo (later s.lo t.lo) o.from (later_first s.lo t.lo);
   rises = back_begins n ns (earlier s.hi t.hi) s t d rest (earlier_first s.hi t.hi) (earlier_second s.hi t.hi) r;
   child = child;
   after = between_placed n ns s.hi t.hi d rest (back_stands n ns s t c d rest o r);
 }
 
 middle_begins : (n : Bool) (ns : List Bool) (e : End) (s t : Span) (d both rest : Level) → IsAtMost e (later s.lo t.lo) → IsAtMost e s.hi → IsAtMost e t.hi → Stands n ns t.hi rest
-    → BeginsFrom e (between (later s.lo t.lo) (earlier s.hi t.hi) both (between s.hi t.hi d rest))
+    → BeginsFrom e (piece_between (later s.lo t.lo) (earlier s.hi t.hi) both (piece_between s.hi t.hi d rest))
 middle_begins n ns e s t d both rest from low high r =
-    between_begins e (later s.lo t.lo) (earlier s.hi t.hi) both (between s.hi t.hi d rest) from (back_begins n ns e s t d rest low high r)
+    between_begins e (later s.lo t.lo) (earlier s.hi t.hi) both (piece_between s.hi t.hi d rest) from (back_begins n ns e s t d rest low high r)
 
 -- what the second has alone before the first
 front_stands : (n : Bool) (ns : List Bool) (s t : Span) (c d both rest : Level) → Reaches n ns s t c d → IsChild ns both → Stands n ns t.hi rest
-    → MayStand n ns t.lo s.lo d (between (later s.lo t.lo) (earlier s.hi t.hi) both (between s.hi t.hi d rest))
+    → MayStand n ns t.lo s.lo d (piece_between (later s.lo t.lo) (earlier s.hi t.hi) both (piece_between s.hi t.hi d rest))
 front_stands n ns s t c d both rest o child r = record {
   from = o.from_second;
   rises = middle_begins n ns s.lo s t d both rest (later_first s.lo t.lo) (below-at_most s.lo s.hi o.first) o.reaches r;
   child = o.below;
-  after = between_placed n ns (later s.lo t.lo) (earlier s.hi t.hi) both (between s.hi t.hi d rest) (middle_stands n ns s t c d both rest o child r);
+  after = between_placed n ns (later s.lo t.lo) (earlier s.hi t.hi) both (piece_between s.hi t.hi d rest) (middle_stands n ns s t c d both rest o child r);
 }
 
 -- the parts are in their places, and begin where the second does
 parts_stand : (n : Bool) (ns : List Bool) (s t : Span) (c d both rest : Level) → Reaches n ns s t c d → IsChild ns both → Stands n ns t.hi rest → Stands n ns t.lo (in_parts s t d both rest)
 parts_stand n ns s t c d both rest o child r = record {
-  placed = between_placed n ns t.lo s.lo d (between (later s.lo t.lo) (earlier s.hi t.hi) both (between s.hi t.hi d rest)) (front_stands n ns s t c d both rest o child r);
-  begins = between_begins t.lo t.lo s.lo d (between (later s.lo t.lo) (earlier s.hi t.hi) both (between s.hi t.hi d rest)) (at_most-same t.lo)
+  placed = between_placed n ns t.lo s.lo d (piece_between (later s.lo t.lo) (earlier s.hi t.hi) both (piece_between s.hi t.hi d rest)) (front_stands n ns s t c d both rest o child r);
+  begins = between_begins t.lo t.lo s.lo d (piece_between (later s.lo t.lo) (earlier s.hi t.hi) both (piece_between s.hi t.hi d rest)) (at_most-same t.lo)
       (middle_begins n ns t.lo s t d both rest (later_second s.lo t.lo) o.reached (below-at_most t.lo t.hi o.second) r);
 }
 
@@ -101,9 +101,9 @@ parts_hold : (n : Bool) (ns : List Bool) (s t : Span) (c d both rest : Level) (p
     || ((((is_at_most s.lo p && is_at_most t.lo p) && not (is_at_most s.hi p || is_at_most t.hi p)) && child_holds both ps)
     || (((is_at_most s.hi p && not (is_at_most t.hi p)) && child_holds d ps) || level_holds rest (p ∷ ps))))
 parts_hold n ns s t c d both rest p ps o child r =
-    let back = between s.hi t.hi d rest in
+    let back = piece_between s.hi t.hi d rest in
     let alone = (is_at_most t.lo p && not (is_at_most s.lo p)) && child_holds d ps in
-    between_holds n ns t.lo s.lo d (between (later s.lo t.lo) (earlier s.hi t.hi) both back) p ps (front_stands n ns s t c d both rest o child r)
+    between_holds n ns t.lo s.lo d (piece_between (later s.lo t.lo) (earlier s.hi t.hi) both back) p ps (front_stands n ns s t c d both rest o child r)
     ∙ ap (λ z. alone || z)
     (between_holds n ns (later s.lo t.lo) (earlier s.hi t.hi) both back p ps (middle_stands n ns s t c d both rest o child r)
     ∙ ap₂ (λ z w. ((z && not w) && child_holds both ps) || level_holds back (p ∷ ps)) (later_at_most s.lo t.lo p) (earlier_at_most s.hi t.hi p)
@@ -124,7 +124,7 @@ past_by n ns s c t d rest Equal e placed new = nothing_left n ns s c t d rest pl
 past_by n ns s c t d rest Greater e placed new =
     let laid = lay_law (either_child ns) n ns c rest (either_law ns) placed.3 (record { lo = t.hi; hi = s.hi }) (record {
       span = greater_span s.hi t.hi e;
-      from = at_most-trans (first_of n) t.lo t.hi placed.0.from (below-at_most t.lo t.hi placed.0.span);
+      from = at_most-trans (first_end n) t.lo t.hi placed.0.from (below-at_most t.lo t.hi placed.0.span);
       child = new.child;
     }) in
     record {
@@ -132,12 +132,12 @@ past_by n ns s c t d rest Greater e placed new =
       holds = laid.holds;
     }
 
-put_ends : (e lo hi : End) (c rest : Level) (o : Ordering) → IsAtMost hi e → EndsBy e rest → EndsBy e (put_part (part_of (elim o [ Less ↦ Some (record { lo = lo; hi = hi }) | _ ↦ None ]) (Some c)) rest)
+put_ends : (e lo hi : End) (c rest : Level) (o : Ordering) → IsAtMost hi e → EndsBy e rest → EndsBy e (put_piece (piece_of (elim o [ Less ↦ Some (record { lo = lo; hi = hi }) | _ ↦ None ]) (Some c)) rest)
 put_ends e lo hi c rest Less up by = weld_ends e (record { lo = lo; hi = hi }) c rest up by
 put_ends e lo hi c rest Equal up by = by
 put_ends e lo hi c rest Greater up by = by
 
-between_ends : (e lo hi : End) (c rest : Level) → IsAtMost hi e → EndsBy e rest → EndsBy e (between lo hi c rest)
+between_ends : (e lo hi : End) (c rest : Level) → IsAtMost hi e → EndsBy e rest → EndsBy e (piece_between lo hi c rest)
 between_ends e lo hi c rest up by = put_ends e lo hi c rest (end_cmp lo hi) up by
 
 over_ends : (f : Level → Level → Level) (e : End) (s : Span) (c : Level) (t : Span) (d left : Level) → IsSpan s → IsSpan t → IsAtMost s.hi e → IsAtMost t.hi e → EndsBy e left → EndsBy e (overlaid f s c t d left)
@@ -277,10 +277,10 @@ new_alone : (n : Bool) (ns : List Bool) (s : Span) (c : Level) → ArePlaced (n 
 new_alone n ns s c placed = record { span = placed.0.span; from = placed.0.from; child = record { placed = placed.2; not_all = placed.1 } }
 
 -- an item laid over a level at one of the items that it reaches
-pub lay_across : (parts : List Bool) (s : Span) (c l : Level) (t : Span) (d r : Level) → ArePlaced parts (item s c end) → ArePlaced parts (join_level l (item t d r)) → IsAtMost s.lo t.hi → IsAtMost t.lo s.hi
+pub lay_at_top : (parts : List Bool) (s : Span) (c l : Level) (t : Span) (d r : Level) → ArePlaced parts (item s c end) → ArePlaced parts (join_level l (item t d r)) → IsAtMost s.lo t.hi → IsAtMost t.lo s.hi
     → glue (ahead (union_below parts) s c t.lo l) (in_parts s t d (union_below parts c d) (past (union_below parts) s c t.hi r)) ≡ lay (union_below parts) s c (join_level l (item t d r))
-lay_across [] s c l t d r alone placed reaches reached = absurd alone
-lay_across (n ∷ ns) s c l t d r alone placed reaches reached = across_lay n ns s c l t d r (is_across n ns s c l t d r (new_alone n ns s c alone) placed reaches reached)
+lay_at_top [] s c l t d r alone placed reaches reached = absurd alone
+lay_at_top (n ∷ ns) s c l t d r alone placed reaches reached = across_lay n ns s c l t d r (is_across n ns s c l t d r (new_alone n ns s c alone) placed reaches reached)
 
 -- what an item has before an end, laid over a level in place, leaves it in place
 pub ahead_placed : (parts : List Bool) (s : Span) (c : Level) (e : End) (l : Level) → ArePlaced parts (item s c end) → ArePlaced parts l → ArePlaced parts (ahead (union_below parts) s c e l)

@@ -12,13 +12,13 @@ use Rattle.rx_tree.specs.Tree.{Level}
 use Rattle.rx_tree.specs.Tree.Level.{end, item}
 use Rattle.rx_tree.specs.Join.{join_level}
 use Rattle.rx_tree.specs.Canonical.{BeginsFrom, Differs}
-use Rattle.rx_tree.specs.Meet.{part_of, put_part}
+use Rattle.rx_tree.specs.Meet.{piece_of, put_piece}
 use Rattle.rx_tree.specs.Weld.{weld}
-use Rattle.rx_tree.specs.Union.{between, overlaid, lay}
+use Rattle.rx_tree.specs.Union.{piece_between, overlaid, lay}
 use Rattle.rx_tree.proofs.Welding.{weld_apart}
 use Rattle.rx_or.specs.Cover.{AreInOrder}
 use Rattle.rx_or.specs.Below.{past}
-use Rattle.rx_weld.proofs.Apart.{differs_weld, weld_join}
+use Rattle.rx_weld.proofs.Seamless.{differs_weld, weld_join}
 use Rattle.rx_or.proofs.Order.{first_low, right_order}
 
 -- an end below another isn't the same
@@ -30,12 +30,12 @@ pub differs_far : (i : Span) (d : Level) (e : End) (l : Level) → IsBelow i.hi 
 differs_far i d e end low from = tt
 differs_far i d e (item t c rest) low from = λ touch same. apart_ends i.hi t.lo (below-at_most-trans i.hi e t.lo low from) touch
 
-differs_put : (i : Span) (d : Level) (lo hi : End) (c rest : Level) (o : Ordering) → (i.hi ≡ lo → d ≡ c → ⊥) → Differs i d rest → Differs i d (put_part (part_of (elim o [ Less ↦ Some (record { lo = lo; hi = hi }) | _ ↦ None ]) (Some c)) rest)
+differs_put : (i : Span) (d : Level) (lo hi : End) (c rest : Level) (o : Ordering) → (i.hi ≡ lo → d ≡ c → ⊥) → Differs i d rest → Differs i d (put_piece (piece_of (elim o [ Less ↦ Some (record { lo = lo; hi = hi }) | _ ↦ None ]) (Some c)) rest)
 differs_put i d lo hi c rest Less first after = differs_weld i d (record { lo = lo; hi = hi }) c rest first
 differs_put i d lo hi c rest Equal first after = after
 differs_put i d lo hi c rest Greater first after = after
 
-differs_between : (i : Span) (d : Level) (lo hi : End) (c rest : Level) → (i.hi ≡ lo → d ≡ c → ⊥) → Differs i d rest → Differs i d (between lo hi c rest)
+differs_between : (i : Span) (d : Level) (lo hi : End) (c rest : Level) → (i.hi ≡ lo → d ≡ c → ⊥) → Differs i d rest → Differs i d (piece_between lo hi c rest)
 differs_between i d lo hi c rest first after = differs_put i d lo hi c rest (end_cmp lo hi) first after
 
 and_first : (a b : Bool) → (a && b) ≡ true → a ≡ true
@@ -97,12 +97,12 @@ lay_right f s c (item u e l) i d r order span low =
     ∙ weld_apart u e (join_level l (item i d (lay f s c r))) (differs_swap u e l i d r (lay f s c r) order.2)
 
 put_join : (lo hi : End) (c x : Level) (i : Span) (d r : Level) (o : Ordering) → (hi ≡ i.lo → c ≡ d → ⊥)
-    → put_part (part_of (elim o [ Less ↦ Some (record { lo = lo; hi = hi }) | _ ↦ None ]) (Some c)) (join_level x (item i d r)) ≡ join_level (put_part (part_of (elim o [ Less ↦ Some (record { lo = lo; hi = hi }) | _ ↦ None ]) (Some c)) x) (item i d r)
+    → put_piece (piece_of (elim o [ Less ↦ Some (record { lo = lo; hi = hi }) | _ ↦ None ]) (Some c)) (join_level x (item i d r)) ≡ join_level (put_piece (piece_of (elim o [ Less ↦ Some (record { lo = lo; hi = hi }) | _ ↦ None ]) (Some c)) x) (item i d r)
 put_join lo hi c x i d r Less differs = weld_join (record { lo = lo; hi = hi }) c x i d r differs
 put_join lo hi c x i d r Equal differs = refl
 put_join lo hi c x i d r Greater differs = refl
 
-between_join : (lo hi : End) (c x : Level) (i : Span) (d r : Level) → (hi ≡ i.lo → c ≡ d → ⊥) → between lo hi c (join_level x (item i d r)) ≡ join_level (between lo hi c x) (item i d r)
+between_join : (lo hi : End) (c x : Level) (i : Span) (d r : Level) → (hi ≡ i.lo → c ≡ d → ⊥) → piece_between lo hi c (join_level x (item i d r)) ≡ join_level (piece_between lo hi c x) (item i d r)
 between_join lo hi c x i d r differs = put_join lo hi c x i d r (end_cmp lo hi) differs
 
 past_by : (f : Level → Level → Level) (s : Span) (c : Level) (e : End) (l : Level) (i : Span) (d r : Level) (o : Ordering) → end_cmp s.hi e ≡ o
@@ -120,10 +120,10 @@ earlier_by a b x Greater is = below-at_most b a (greater_span a b is)
 over_join : (f : Level → Level → Level) (s : Span) (c : Level) (t : Span) (e left more : Level) (i : Span) (d r : Level) → IsSpan s → IsBelow s.hi i.lo → IsBelow t.lo s.hi → (t.hi ≡ i.lo → e ≡ d → ⊥) → more ≡ join_level left (item i d r)
     → overlaid f s c t e more ≡ join_level (overlaid f s c t e left) (item i d r)
 over_join f s c t e left more i d r span low over differs is =
-    let a = λ (x : Level). between s.hi t.hi e x in
-    let b = λ (x : Level). between (later s.lo t.lo) (earlier s.hi t.hi) (f c e) x in
-    let g = λ (x : Level). between t.lo s.lo e x in
-    let h = λ (x : Level). between s.lo t.lo c x in
+    let a = λ (x : Level). piece_between s.hi t.hi e x in
+    let b = λ (x : Level). piece_between (later s.lo t.lo) (earlier s.hi t.hi) (f c e) x in
+    let g = λ (x : Level). piece_between t.lo s.lo e x in
+    let h = λ (x : Level). piece_between s.lo t.lo c x in
     let one : a more ≡ join_level (a left) (item i d r) = ap a is ∙ between_join s.hi t.hi e left i d r differs in
     let two : b (a more) ≡ join_level (b (a left)) (item i d r) =
     ap b one ∙ between_join (later s.lo t.lo) (earlier s.hi t.hi) (f c e) (a left) i d r (λ touch same. apart_ends (earlier s.hi t.hi) i.lo (at_most-below (earlier s.hi t.hi) s.hi i.lo (earlier_by s.hi t.hi s.hi (end_cmp s.hi t.hi) refl) low) touch) in

@@ -1,9 +1,9 @@
 -- What the order of two ends says.
-use Rattle.std.proofs.Common.{◌≡◌, ◌↔◌, IsTrue, true, false, refl, ap, sym, subst}
+use Rattle.std.proofs.Common.{◌≡◌, ◌↔◌, IsTrue, Bool, true, false, not, refl, ap, sym, subst}
 use Rattle.std.specs.declared.cmp.Ordering.{Ordering}
 use Rattle.std.specs.declared.cmp.Ordering.TheVariants.{Less, Equal, Greater}
 use Rattle.rx_value.specs.declared.order.End.{End}
-use Rattle.rx_value.specs.Order.{end_cmp}
+use Rattle.rx_value.specs.Order.{end_cmp, is_at_most}
 use Rattle.rx_value.specs.Spans.{IsAtMost, IsBelow}
 use Rattle.rx_value.proofs.Ends.{below-from_less, below-irrefl, at_most-from_equal, at_most-from_greater, end_cmp-equal}
 
@@ -44,13 +44,11 @@ compared a b Greater e = record {
   greater_apart = λ is same. below-irrefl b (subst (λ (x : End). IsBelow b x) (sym same) (greater_above a b (sym e)));
 }
 
--- a test of two ends decides whether the first is below the second
-pub is_below : (a b x y : End) (o : Ordering) → a ≡ x → b ≡ y → o ≡ end_cmp a b → o ≡ Less → (IsTrue true ↔ IsBelow x y)
-is_below a b x y o first second is less =
-    let low : IsBelow x y = subst (λ (e : End). IsBelow e y) first (subst (λ (e : End). IsBelow a e) second ((compared a b o is).less less)) in
-    ((λ yes. low), (λ below. refl))
-
-pub isnt_below : (a b x y : End) (o : Ordering) → a ≡ x → b ≡ y → o ≡ end_cmp a b → (o ≡ Less → ⊥) → (IsTrue false ↔ IsBelow x y)
-isnt_below a b x y o first second is not =
-    let high : IsAtMost y x = subst (λ (e : End). IsAtMost y e) first (subst (λ (e : End). IsAtMost e a) second ((compared a b o is).not_less not)) in
+-- where the test of two ends answers no, the second is below the first
+pub above_not_at_most : (a b x y : End) (r : Bool) → a ≡ x → b ≡ y → r ≡ is_at_most b a → (IsTrue (not r) ↔ IsBelow x y)
+above_not_at_most a b x y true first second is =
+    let high : is_at_most y x ≡ true = subst (λ (e : End). is_at_most y e ≡ true) first (subst (λ (e : End). is_at_most e a ≡ true) second (sym is)) in
     ((λ no. absurd (cc no)), (λ below. absurd (cc (high, below))))
+above_not_at_most a b x y false first second is =
+    let low : is_at_most y x ≡ false = subst (λ (e : End). is_at_most y e ≡ false) first (subst (λ (e : End). is_at_most e a ≡ false) second (sym is)) in
+    ((λ yes. low), (λ below. refl))

@@ -4,10 +4,10 @@ use Rattle.std.proofs.Math.Bool.{or_comm}
 use Rattle.rx_value.specs.declared.order.End.{End}
 use Rattle.rx_value.specs.declared.order.Span.{Span}
 use Rattle.rx_value.specs.Order.{is_at_most}
-use Rattle.rx_value.specs.Spans.{IsAtMost, is_inside}
+use Rattle.rx_value.specs.Spans.{IsAtMost, is_inside, first_end}
 use Rattle.rx_value.proofs.Ends.{at_most-same, at_most-trans, below-at_most, below-trans}
 use Rattle.rx_value.proofs.Meeting.{outside_above}
-use Rattle.rx_tree.specs.Tree.{Level, first_of}
+use Rattle.rx_tree.specs.Tree.{Level}
 use Rattle.rx_tree.specs.Tree.Level.{end, item}
 use Rattle.rx_tree.specs.Member.{IsTuple, level_holds, child_holds}
 use Rattle.rx_tree.specs.Canonical.{BeginsFrom, Differs, ArePlaced}
@@ -110,7 +110,7 @@ after_placed_by : (n : Bool) (ns : List Bool) (e : End) (t : Span) (d rest kept 
 after_placed_by n ns e t d rest kept true b low g placed after = after
 after_placed_by n ns e t d rest kept false true low g placed after = placed
 after_placed_by n ns e t d rest kept false false low g placed after =
-    (record { span = low; from = at_most-trans (first_of n) t.lo e placed.0.from (below-at_most t.lo e g); rises = placed.0.rises; differs = differs_upper e t d rest placed.0.differs }, placed.1, placed.2, placed.3)
+    (record { span = low; from = at_most-trans (first_end n) t.lo e placed.0.from (below-at_most t.lo e g); rises = placed.0.rises; differs = differs_upper e t d rest placed.0.differs }, placed.1, placed.2, placed.3)
 
 after_placed : (n : Bool) (ns : List Bool) (e : End) (l : Level) → ArePlaced (n ∷ ns) l → ArePlaced (n ∷ ns) (after e l)
 after_placed n ns e end placed = tt

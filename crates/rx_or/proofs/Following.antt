@@ -13,7 +13,7 @@ use Rattle.rx_tree.specs.Tree.Level.{end, item}
 use Rattle.rx_tree.specs.Join.{join_level, length_of}
 use Rattle.rx_tree.specs.Canonical.{ArePlaced}
 use Rattle.rx_tree.specs.Weld.{glue}
-use Rattle.rx_tree.specs.Union.{lay, lay_all, is_all, between as piece_between}
+use Rattle.rx_tree.specs.Union.{lay, lay_all, is_all, piece_between}
 use Rattle.rx_level.specs.declared.nodes.Node.{Node}
 use Rattle.rx_level.specs.declared.trees.Item.{Item}
 use Rattle.rx_level.specs.Store.{IsSound, leads, held_of}
@@ -23,11 +23,11 @@ use Rattle.rx_level.proofs.Turning.{kept_root}
 use Rattle.rx_or.specs.Below.{union_below, ahead, past, in_parts, ArePlacedBelow}
 use Rattle.rx_or.proofs.Laid.{lay_join, placed_left, placed_from, placed_item, placed_right, placed_below, lay_placed, lay_all_placed, below_some, parts_order, alone_span}
 use Rattle.rx_or.specs.Cover.{AreInOrder}
-use Rattle.rx_weld.specs.Apart.{AreApart}
+use Rattle.rx_weld.specs.Seamless.{IsSeamless}
 use Rattle.rx_or.proofs.Order.{order_apart}
 use Rattle.rx_or.proofs.Aside.{lay_left, lay_right}
-use Rattle.rx_or.proofs.Across.{lay_across, ahead_placed, front_alone}
-use Rattle.rx_or.proofs.Welded.{between_same}
+use Rattle.rx_or.proofs.Across.{lay_at_top, ahead_placed, front_alone}
+use Rattle.rx_or.proofs.Stretched.{between_same}
 
 -- a level is taken apart, and another is held beside it
 pub record IsTaken (a b : Slab Node) (parts : List Bool) (g h left right : Option ℕ) (top : Item) : Type 0 where
@@ -325,7 +325,7 @@ fronted a b parts i top left right front owns step alone placed level =
     }
 
 -- and its neighbours stay apart while the rest of the item is laid
-pub front_apart : (a b d : Slab Node) (parts : List Bool) (i top : Item) (right front : Option ℕ) (g : List (Option ℕ)) → IsFronted a b parts i top right front → Step b d (i.child ∷ top.child ∷ right ∷ []) g → AreApart (level_of d front)
+pub front_apart : (a b d : Slab Node) (parts : List Bool) (i top : Item) (right front : Option ℕ) (g : List (Option ℕ)) → IsFronted a b parts i top right front → Step b d (i.child ∷ top.child ∷ right ∷ []) g → IsSeamless (level_of d front)
 front_apart a b d parts i top right front g x step =
     let f = kept_root b d _ _ step front (λ m. omega (arith, x.held m)) in
     order_apart (level_of d front) (subst AreInOrder (sym f.level) x.order)
@@ -344,7 +344,7 @@ across_level a b d e parts i top left right front back whole x step alone placed
     l2 ∙ (rw (x.child, x.below, x.behind) refl) in
     l3
     ∙ ap₂ glue (f.level ∙ l1) is
-    ∙ lay_across parts i.span (level_of a i.child) (level_of a left) top.span (level_of a top.child) (level_of a right) alone placed reaches.0 reaches.1
+    ∙ lay_at_top parts i.span (level_of a i.child) (level_of a left) top.span (level_of a top.child) (level_of a right) alone placed reaches.0 reaches.1
 
 -- or over it
 pub over_level : (a b f : Slab Node) (parts : List Bool) (i top : Item) (root left right whole : Option ℕ) → IsAside a b parts i top root left right

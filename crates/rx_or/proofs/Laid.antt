@@ -2,8 +2,8 @@
 use Rattle.std.proofs.Common.{◌≡◌, ◌&&◌, ◌-◌, ◌≤◌, Bool, true, false, cond, List, [], ◌∷◌, length, get_or, take, drop, length-drop, refl, ap, ap₂, sym, ◌∙◌, arith}
 use Rattle.std.proofs.lemmas.List.{take_all}
 use Rattle.rx_value.specs.declared.order.Span.{Span}
-use Rattle.rx_value.specs.Spans.{IsSpan}
-use Rattle.rx_tree.specs.Tree.{Level, is_end, is_whole}
+use Rattle.rx_value.specs.Spans.{IsSpan, is_whole_span}
+use Rattle.rx_tree.specs.Tree.{Level, is_end}
 use Rattle.rx_tree.specs.Tree.Level.{end, item}
 use Rattle.rx_tree.specs.Join.{join_level, length_of}
 use Rattle.rx_tree.specs.Canonical.{ArePlaced}
@@ -123,12 +123,12 @@ and_end : (h : Bool) → h ≡ (h && (true && true))
 and_end true = refl
 and_end false = refl
 
-whole_alone : (n : Bool) (s : Span) (c : Level) → length_of c ≡ 0 → is_whole n s ≡ is_all n (item s c end)
-whole_alone n s end e = and_end (is_whole n s)
+whole_alone : (n : Bool) (s : Span) (c : Level) → length_of c ≡ 0 → is_whole_span n s ≡ is_all n (item s c end)
+whole_alone n s end e = and_end (is_whole_span n s)
 whole_alone n s (item t d rest) e = absurd (omega (arith, e))
 
 -- one item without a child is all where it is whole
-pub all_alone : (n : Bool) (l left c right : Level) (s : Span) → l ≡ join_level left (item s c right) → length_of left ≡ 0 → length_of right ≡ 0 → length_of c ≡ 0 → is_whole n s ≡ is_all n l
+pub all_alone : (n : Bool) (l left c right : Level) (s : Span) → l ≡ join_level left (item s c right) → length_of left ≡ 0 → length_of right ≡ 0 → length_of c ≡ 0 → is_whole_span n s ≡ is_all n l
 all_alone n l end c end s e no_left no_right no_child = whole_alone n s c no_child ∙ sym (ap (is_all n) e)
 all_alone n l end c (item t d rest) s e no_left no_right no_child = absurd (omega (arith, no_right))
 all_alone n l (item t d rest) c right s e no_left no_right no_child = absurd (omega (arith, no_left))
@@ -147,19 +147,19 @@ join_some (item t d l) s c r = refl
 
 not_left : (n : Bool) (left c right : Level) (s : Span) → (length_of left ≡ 0 → ⊥) → is_all n (join_level left (item s c right)) ≡ false
 not_left n end c right s some = absurd (some refl)
-not_left n (item t d l) c right s some = and_none (is_whole n t) (is_end d && is_end (join_level l (item s c right))) (and_none (is_end d) (is_end (join_level l (item s c right))) (join_some l s c right))
+not_left n (item t d l) c right s some = and_none (is_whole_span n t) (is_end d && is_end (join_level l (item s c right))) (and_none (is_end d) (is_end (join_level l (item s c right))) (join_some l s c right))
 
 not_right : (n : Bool) (left c right : Level) (s : Span) → (length_of right ≡ 0 → ⊥) → is_all n (join_level left (item s c right)) ≡ false
-not_right n end c right s some = and_none (is_whole n s) (is_end c && is_end right) (and_none (is_end c) (is_end right) (some_end right some))
-not_right n (item t d l) c right s some = and_none (is_whole n t) (is_end d && is_end (join_level l (item s c right))) (and_none (is_end d) (is_end (join_level l (item s c right))) (join_some l s c right))
+not_right n end c right s some = and_none (is_whole_span n s) (is_end c && is_end right) (and_none (is_end c) (is_end right) (some_end right some))
+not_right n (item t d l) c right s some = and_none (is_whole_span n t) (is_end d && is_end (join_level l (item s c right))) (and_none (is_end d) (is_end (join_level l (item s c right))) (join_some l s c right))
 
 and_first : (a b : Bool) → a ≡ false → (a && b) ≡ false
 and_first true b e = absurd (cc e)
 and_first false b e = refl
 
 not_child : (n : Bool) (left c right : Level) (s : Span) → (length_of c ≡ 0 → ⊥) → is_all n (join_level left (item s c right)) ≡ false
-not_child n end c right s some = and_none (is_whole n s) (is_end c && is_end right) (and_first (is_end c) (is_end right) (some_end c some))
-not_child n (item t d l) c right s some = and_none (is_whole n t) (is_end d && is_end (join_level l (item s c right))) (and_none (is_end d) (is_end (join_level l (item s c right))) (join_some l s c right))
+not_child n end c right s some = and_none (is_whole_span n s) (is_end c && is_end right) (and_first (is_end c) (is_end right) (some_end c some))
+not_child n (item t d l) c right s some = and_none (is_whole_span n t) (is_end d && is_end (join_level l (item s c right))) (and_none (is_end d) (is_end (join_level l (item s c right))) (join_some l s c right))
 
 -- an item that has a child or a neighbour isn't all
 pub all_not : (n : Bool) (l left c right : Level) (s : Span) → l ≡ join_level left (item s c right) → (length_of left ≡ 0 → length_of right ≡ 0 → length_of c ≡ 0 → ⊥) → false ≡ is_all n l

@@ -3,10 +3,10 @@ pub mod Reaching
 pub mod Compared
 pub mod Opened
 pub mod Covered
-pub mod Welded
+pub mod Stretched
 pub mod Laid
 pub mod Aside
 pub mod Bools
 pub mod Across
 pub mod Following
-pub mod Roots
+pub mod UnionRoots

@@ -12,7 +12,7 @@ use Rattle.rx_level.specs.declared.nodes.Node.{Node}
 use Rattle.rx_level.specs.declared.trees.Item.{Item}
 use Rattle.rx_tree.specs.Join.{join_level}
 use Rattle.rx_level.specs.Tree.{IsNear, IsHeight, least}
-use Rattle.rx_level.specs.Store.{IsSound, held_of, leads, owed, parts_in}
+use Rattle.rx_level.specs.Store.{IsSound, held_of, leads, owed, body_in}
 use Rattle.rx_level.specs.Step.{Owns, Step, level_of, tall_of, between}
 use Rattle.rx_level.proofs.Steps.{held_there, level_of-parts}
 use Rattle.rx_level.proofs.Turning.{Kept, kept_root, max_turn}
@@ -28,7 +28,7 @@ node_level : (s : Slab Node) → IsSound s [] → (k : ℕ) (o : Option Node) �
 node_level s sound k None is there e = absurd (cc there)
 node_level s sound k (Some v) is there e =
     not_end (level_of s v.left) v.span (level_of s v.child) (level_of s v.right)
-    (sym (level_of-parts s sound k (record { span = v.span; child = v.child; left = v.left; right = v.right }) (ap parts_in is)) ∙ e)
+    (sym (level_of-parts s sound k (record { span = v.span; child = v.child; left = v.left; right = v.right }) (ap body_in is)) ∙ e)
 
 -- a link that leads somewhere leads to items
 pub some_level : (s : Slab Node) → IsSound s [] → (r : Option ℕ) → ((m : ℕ) → leads m r ≤ held_of s m) → (r ≡ None → ⊥) → level_of s r ≡ end → ⊥

@@ -9,7 +9,7 @@ use Rattle.rx_tree.specs.Tree.{Level}
 use Rattle.rx_tree.specs.Tree.Level.{end, item}
 use Rattle.rx_tree.specs.Canonical.{BeginsFrom, Differs}
 use Rattle.rx_tree.specs.Join.{join_level}
-use Rattle.rx_weld.specs.Apart.{AreApart}
+use Rattle.rx_weld.specs.Seamless.{IsSeamless}
 use Rattle.rx_or.specs.Cover.{before, after, AreInOrder}
 
 -- an end before the first of some items is before a later one
@@ -35,7 +35,7 @@ left_order end m order = tt
 left_order (item u c l) m order = (order.0, left_begins u.hi l m order.1, left_differs u c l m order.2, left_order l m order.3)
 
 -- neighbours in order can't be one item
-pub order_apart : (l : Level) → AreInOrder l → AreApart l
+pub order_apart : (l : Level) → AreInOrder l → IsSeamless l
 order_apart end order = tt
 order_apart (item s c rest) order = (order.2, order_apart rest order.3)
 

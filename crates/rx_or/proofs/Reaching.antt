@@ -13,7 +13,7 @@ use Rattle.rx_tree.proofs.Welding.{weld_apart, same_end-itself}
 use Rattle.rx_tree.specs.Join.{join_level}
 use Rattle.rx_level.proofs.Steps.{join_assoc}
 use Rattle.rx_or.specs.Cover.{before, after, AreInOrder, IsCutBefore, IsCutAfter}
-use Rattle.rx_weld.proofs.Apart.{differs_weld, weld_twice, weld_join, glue_join}
+use Rattle.rx_weld.proofs.Seamless.{differs_weld, weld_twice, weld_join, glue_join}
 use Rattle.rx_or.proofs.Order.{till, order_apart, right_order, before_keep, before_drop, before_cut, nothing_before, after_drop, after_cut, after_keep}
 
 differs_before : (e hi : End) (s : Span) (c t' : Level) (t : Span) (d y : Level) (a b : Bool) → (s.hi ≡ t.lo → c ≡ d → ⊥) → Differs s c y → Differs s c (glue (cond a (item t d t') (cond b end (item (record { lo = t.lo; hi = e }) d end))) y)

@@ -10,7 +10,7 @@ use Rattle.rx_tree.specs.Tree.Level.{end, item}
 use Rattle.rx_tree.specs.Tree.Tree.{everything, nothing, items}
 use Rattle.rx_tree.specs.Join.{length_of}
 use Rattle.rx_tree.specs.Canonical.{ArePlaced}
-use Rattle.rx_tree.specs.Union.{between, lay, either_child, is_all}
+use Rattle.rx_tree.specs.Union.{piece_between, lay, either_child, is_all}
 use Rattle.rx_or.specs.Cover.{covered}
 
 -- what goes on below either of two children of a level's items, by the parts from that of the level on
@@ -28,7 +28,7 @@ ahead f s c e rest = elim (end_cmp s.lo e) [ Less ↦ lay f (record { lo = s.lo;
 
 -- An item that a span reaches, in parts: what it has alone before the span, what both have, over a child, what it has alone behind the span, and the rest.
 abbrev pub in_parts : Span → Span → Level → Level → Level → Level
-in_parts s t d both rest = between t.lo s.lo d (between (later s.lo t.lo) (earlier s.hi t.hi) both (between s.hi t.hi d rest))
+in_parts s t d both rest = piece_between t.lo s.lo d (piece_between (later s.lo t.lo) (earlier s.hi t.hi) both (piece_between s.hi t.hi d rest))
 
 -- the items of a child of a level's items are in their places
 abbrev pub ArePlacedBelow : List Bool → Level → Type 0

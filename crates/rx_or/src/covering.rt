@@ -7,7 +7,7 @@ ghost use Rattle.rx_level.specs.Step.{Owns, Step, level_of, tall_of};
 ghost use Rattle.rx_or.specs.Cover.{AreInOrder, covered};
 
 use crate::cutting::{cut_after, cut_before};
-use rx_level::{Item, Levels, join};
+use rx_level::{Item, Levels, Owned, join};
 use rx_value::Span;
 use std::alloc::{AllocError, Global};
 
@@ -19,15 +19,15 @@ pub fn cover(
     levels: &mut Levels,
     alloc: Global,
     part: u32,
-    root: Option<usize>,
+    root: Owned,
     span: Span,
-) -> Result<Option<usize>, AllocError>
+) -> Result<Owned, AllocError>
     requires owns { Owns levels.old (root ∷ []) }
     requires order { AreInOrder (level_of levels.old root) }
     ensures ok { IfOk result (λ r. Step levels.old levels.new (root ∷ []) (r ∷ [])) }
     ensures level { IfOk result (λ r. level_of levels.new r ≡ covered span (level_of levels.old root)) }
     ensures live { slab_len levels.new ≤ slab_len levels.old + 8 * tall_of levels.old root + 1 }
-    ensures few { (bits : ℕ) → length_of (level_of levels.old root) < 2 ^ bits → slab_len levels.new ≤ slab_len levels.old + 16 * bits + 16 }
+    ensures by_bits { (bits : ℕ) → length_of (level_of levels.old root) < 2 ^ bits → slab_len levels.new ≤ slab_len levels.old + 16 * bits + 16 }
     ensures err { OnErr result (Step levels.old levels.new (root ∷ []) []) }
 {
     levels.sound();
@@ -40,9 +40,9 @@ fn replace(
     levels: &mut Levels,
     alloc: Global,
     part: u32,
-    root: Option<usize>,
+    root: Owned,
     span: Span,
-) -> Result<Option<usize>, AllocError>
+) -> Result<Owned, AllocError>
     requires owns { Owns levels.old (root ∷ []) }
     requires order { AreInOrder (level_of levels.old root) }
     ensures ok { IfOk result (λ r. Step levels.old levels.new (root ∷ []) (r ∷ [])) }

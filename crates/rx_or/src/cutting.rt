@@ -2,14 +2,13 @@
 
 ghost use Rattle.std.specs.Prelude.{◌≡◌, ◌≤◌, ◌+◌, ◌*◌, ℕ, List, [], ◌∷◌, Option, Some, None, IfOk, OnErr};
 ghost use Rattle.slab.specs.Slab.{slab_len};
-ghost use Rattle.rx_value.specs.Spans.{IsAtMost, IsBelow};
 ghost use Rattle.rx_level.specs.Step.{Owns, Step, level_of, tall_of};
 ghost use Rattle.rx_tree.specs.Tree.Level.{item as one_item, end as no_items};
 ghost use Rattle.rx_tree.specs.Join.{join_level};
-ghost use Rattle.rx_or.specs.declared.cutting.Place.TheVariants.{Apart, Joined, Across, Beyond};
 ghost use Rattle.rx_or.specs.Cover.{AreInOrder, IsCutBefore, IsCutAfter};
+ghost use Rattle.rx_or.specs.Places.{IsPlaceBefore, IsPlaceAfter};
 
-use rx_level::{Item, Levels, copy_end, join};
+use rx_level::{Item, Levels, Owned, join};
 use rx_value::{End, Span, compare_ends};
 use std::alloc::{AllocError, Global};
 use std::cmp::Ordering;
@@ -18,7 +17,7 @@ use std::cmp::Ordering;
 /// it has joined the items without a child that it reaches.
 #[derive(Drop)]
 pub struct Cut {
-    pub rest: Option<usize>,
+    pub rest: Owned,
     pub edge: End,
 }
 
@@ -37,10 +36,7 @@ enum Place {
 
 // How an item stands to a span that begins at the edge.
 fn place_before(item: &Item, edge: &End) -> Place
-    ensures beyond { result ≡ Beyond → IsAtMost edge.now item.now.span.lo }
-    ensures apart { result ≡ Apart → IsAtMost item.now.span.hi edge.now × (item.now.span.hi ≡ edge.now → item.now.child ≡ None → ⊥) }
-    ensures joined { result ≡ Joined → IsBelow item.now.span.lo edge.now × IsAtMost edge.now item.now.span.hi × (item.now.child ≡ None) }
-    ensures across { result ≡ Across → IsBelow item.now.span.lo edge.now × IsBelow edge.now item.now.span.hi × (item.now.child ≡ None → ⊥) }
+    ensures { IsPlaceBefore result item.now.span item.now.child edge.now }
 {
     let Ordering::Less = compare_ends(&item.span.lo, edge) else {
         return Place::Beyond;
@@ -60,10 +56,7 @@ fn place_before(item: &Item, edge: &End) -> Place
 
 // How an item stands to a span that ends at the edge.
 fn place_after(item: &Item, edge: &End) -> Place
-    ensures beyond { result ≡ Beyond → IsAtMost item.now.span.hi edge.now }
-    ensures apart { result ≡ Apart → IsAtMost edge.now item.now.span.lo × (edge.now ≡ item.now.span.lo → item.now.child ≡ None → ⊥) }
-    ensures joined { result ≡ Joined → IsAtMost item.now.span.lo edge.now × IsBelow edge.now item.now.span.hi × (item.now.child ≡ None) }
-    ensures across { result ≡ Across → IsBelow item.now.span.lo edge.now × IsBelow edge.now item.now.span.hi × (item.now.child ≡ None → ⊥) }
+    ensures { IsPlaceAfter result item.now.span item.now.child edge.now }
 {
     let Ordering::Less = compare_ends(edge, &item.span.hi) else {
         return Place::Beyond;
@@ -85,7 +78,7 @@ fn place_after(item: &Item, edge: &End) -> Place
 fn shorten_before(
     levels: &mut Levels,
     alloc: Global,
-    left: Option<usize>,
+    left: Owned,
     item: Item,
     edge: End,
 ) -> Result<Cut, AllocError>
@@ -99,7 +92,7 @@ fn shorten_before(
     ensures err { OnErr result (Step levels.old levels.new (left ∷ item.child ∷ []) []) }
 {
     let Item { part, span, child } = item;
-    let Ok(hi) = copy_end(alloc, &edge) else {
+    let Ok(hi) = edge.copy(alloc) else {
         levels.free(left);
         levels.free(child);
         return Err(AllocError);
@@ -114,7 +107,7 @@ fn shorten_before(
 pub fn cut_before(
     levels: &mut Levels,
     alloc: Global,
-    root: Option<usize>,
+    root: Owned,
     edge: End,
 ) -> Result<Cut, AllocError>
     requires owns { Owns levels.old (root ∷ []) }
@@ -172,7 +165,7 @@ fn shorten_after(
     alloc: Global,
     edge: End,
     item: Item,
-    right: Option<usize>,
+    right: Owned,
 ) -> Result<Cut, AllocError>
     requires { Owns levels.old (right ∷ item.child ∷ []) }
     ensures ok { IfOk result (λ c. Step levels.old levels.new (right ∷ item.child ∷ []) (c.rest ∷ [])) }
@@ -184,7 +177,7 @@ fn shorten_after(
     ensures err { OnErr result (Step levels.old levels.new (right ∷ item.child ∷ []) []) }
 {
     let Item { part, span, child } = item;
-    let Ok(lo) = copy_end(alloc, &edge) else {
+    let Ok(lo) = edge.copy(alloc) else {
         levels.free(right);
         levels.free(child);
         return Err(AllocError);
@@ -199,7 +192,7 @@ fn shorten_after(
 pub fn cut_after(
     levels: &mut Levels,
     alloc: Global,
-    root: Option<usize>,
+    root: Owned,
     edge: End,
 ) -> Result<Cut, AllocError>
     requires owns { Owns levels.old (root ∷ []) }

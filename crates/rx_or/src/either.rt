@@ -10,15 +10,15 @@ ghost use Rattle.rx_level.specs.Step.{Owns, Step, Lent, level_of};
 ghost use Rattle.rx_or.specs.Cover.{AreInOrder};
 ghost use Rattle.rx_or.specs.Below.{union_below, unless_all, is_bare, covered_by};
 
+use crate::all_keys::is_all;
 use crate::covering::cover;
 use crate::uniting::lay_items;
-use crate::wholes::is_all;
 use rx_graph::GraphFault;
-use rx_level::Levels;
+use rx_level::{Levels, Link, Owned};
 use std::alloc::{AllocError, Global};
 
 // Whether a lent level is one item without a child.
-fn is_bare(levels: &Levels, root: Option<usize>) -> bool
+fn is_bare(levels: &Levels, root: Link) -> bool
     requires { Lent levels.now [] root }
     ensures { result ≡ is_bare (level_of levels.now root) }
 {
@@ -32,18 +32,13 @@ fn is_bare(levels: &Levels, root: Option<usize>) -> bool
 }
 
 // The span of a level of one item without a child laid over another. Both handles are spent in every case.
-fn lay_bare(
-    levels: &mut Levels,
-    alloc: Global,
-    g: Option<usize>,
-    key: usize,
-) -> Result<Option<usize>, AllocError>
+fn lay_bare(levels: &mut Levels, alloc: Global, g: Owned, key: usize) -> Result<Owned, AllocError>
     requires owns { Owns levels.old (g ∷ Some key ∷ []) }
     requires order { AreInOrder (level_of levels.old g) }
     requires bare { is_bare (level_of levels.old (Some key)) ≡ true }
     ensures ok { IfOk result (λ r. Step levels.old levels.new (g ∷ Some key ∷ []) (r ∷ [])) }
     ensures level { IfOk result (λ r. level_of levels.new r ≡ covered_by (level_of levels.old (Some key)) (level_of levels.old g)) }
-    ensures few { (bits : ℕ) → length_of (level_of levels.old g) < 2 ^ bits → slab_len levels.new ≤ slab_len levels.old + 16 * bits + 16 }
+    ensures by_bits { (bits : ℕ) → length_of (level_of levels.old g) < 2 ^ bits → slab_len levels.new ≤ slab_len levels.old + 16 * bits + 16 }
     ensures err { OnErr result (Step levels.old levels.new (g ∷ Some key ∷ []) []) }
 {
     let Ok(top) = levels.open(key) else {
@@ -66,13 +61,13 @@ fn lay_shorter(
     parts: &[bool],
     g: usize,
     h: usize,
-) -> Result<Option<usize>, AllocError>
+) -> Result<Owned, AllocError>
     requires owns { Owns levels.old (Some g ∷ Some h ∷ []) }
     requires first { ArePlaced parts.now (level_of levels.old (Some g)) }
     requires second { ArePlaced parts.now (level_of levels.old (Some h)) }
     ensures ok { IfOk result (λ r. Step levels.old levels.new (Some g ∷ Some h ∷ []) (r ∷ [])) }
     ensures level { IfOk result (λ r. level_of levels.new r ≡ lay_all (union_below parts.now) (level_of levels.old (Some g)) (level_of levels.old (Some h))) }
-    ensures few { is_bare (level_of levels.old (Some h)) ≡ true → (bits : ℕ) → length_of (level_of levels.old (Some g)) < 2 ^ bits → slab_len levels.new ≤ slab_len levels.old + 16 * bits + 16 }
+    ensures by_bits { is_bare (level_of levels.old (Some h)) ≡ true → (bits : ℕ) → length_of (level_of levels.old (Some g)) < 2 ^ bits → slab_len levels.new ≤ slab_len levels.old + 16 * bits + 16 }
     ensures err { OnErr result (Step levels.old levels.new (Some g ∷ Some h ∷ []) []) }
 {
     if is_bare(levels, Some(h)) {
@@ -96,7 +91,7 @@ pub fn level_or(
     g: usize,
     h: usize,
     limit: u64,
-) -> Result<Option<usize>, GraphFault>
+) -> Result<Owned, GraphFault>
     requires owns { Owns levels.old (Some g ∷ Some h ∷ []) }
     requires first { ArePlaced parts.now (level_of levels.old (Some g)) }
     requires second { ArePlaced parts.now (level_of levels.old (Some h)) }
@@ -104,7 +99,7 @@ pub fn level_or(
     ensures level { IfOk result (λ r. level_of levels.new r ≡ unless_all parts.now (lay_all (union_below parts.now) (level_of levels.old (Some g)) (level_of levels.old (Some h)))) }
     ensures small { IfOk result (λ r. level_size (level_of levels.new r) ≤ limit) }
     ensures over { IfErr result (λ fault. fault ≡ GraphFault.OverLimit → limit < level_size (unless_all parts.now (lay_all (union_below parts.now) (level_of levels.old (Some g)) (level_of levels.old (Some h))))) }
-    ensures few { is_bare (level_of levels.old (Some h)) ≡ true → (bits : ℕ) → length_of (level_of levels.old (Some g)) < 2 ^ bits → slab_len levels.new ≤ slab_len levels.old + 16 * bits + 16 }
+    ensures by_bits { is_bare (level_of levels.old (Some h)) ≡ true → (bits : ℕ) → length_of (level_of levels.old (Some g)) < 2 ^ bits → slab_len levels.new ≤ slab_len levels.old + 16 * bits + 16 }
     ensures err { OnErr result (Step levels.old levels.new (Some g ∷ Some h ∷ []) []) }
 {
     let Ok(whole) = lay_shorter(levels, alloc, parts, g, h) else {

@@ -1,13 +1,13 @@
 //! Either of two interval graphs.
 #![tactic(auto)]
 
+mod all_keys;
 mod covering;
 mod cutting;
 mod either;
-mod graphs;
 mod pieces;
+mod stretches;
+mod unions;
 mod uniting;
-mod welding;
-mod wholes;
 
-pub use graphs::or;
+pub use unions::or;

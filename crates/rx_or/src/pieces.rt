@@ -6,11 +6,10 @@ ghost use Rattle.rx_tree.specs.Tree.{Level};
 ghost use Rattle.rx_level.specs.Step.{Owns, Step, level_of};
 ghost use Rattle.rx_or.specs.Below.{in_parts};
 
-use crate::welding::put_between;
-use rx_level::{Item, Levels};
-use rx_value::{Span, compare_ends, earlier, later};
+use crate::stretches::put_between;
+use rx_level::{Item, Levels, Owned};
+use rx_value::{Span, earlier, is_at_most, later};
 use std::alloc::{AllocError, Global};
-use std::cmp::Ordering;
 
 /// Whether some position lies in both of two spans.
 pub fn have_common(a: &Span, b: &Span) -> bool
@@ -18,7 +17,7 @@ pub fn have_common(a: &Span, b: &Span) -> bool
 {
     let lo = later(&a.lo, &b.lo);
     let hi = earlier(&a.hi, &b.hi);
-    matches!(compare_ends(lo, hi), Ordering::Less)
+    !is_at_most(hi, lo)
 }
 
 // The parts of an item that a span reaches, before a level, over a child where both lie. The children stay
@@ -28,9 +27,9 @@ fn put_pieces(
     alloc: Global,
     span: &Span,
     under: &Item,
-    both: Option<usize>,
-    rest: Option<usize>,
-) -> Result<Option<usize>, AllocError>
+    both: Owned,
+    rest: Owned,
+) -> Result<Owned, AllocError>
     requires { Owns levels.old (under.now.child ∷ both ∷ rest ∷ []) }
     ensures ok { IfOk result (λ r. Step levels.old levels.new (rest ∷ []) (r ∷ [])) }
     ensures level { IfOk result (λ r. level_of levels.new r ≡ in_parts span.now under.now.span (level_of levels.old under.now.child) (level_of levels.old both) (level_of levels.old rest)) }
@@ -67,9 +66,9 @@ pub fn spread(
     alloc: Global,
     item: Item,
     under: Item,
-    both: Option<usize>,
-    rest: Option<usize>,
-) -> Result<Option<usize>, AllocError>
+    both: Owned,
+    rest: Owned,
+) -> Result<Owned, AllocError>
     requires { Owns levels.old (item.child ∷ under.child ∷ both ∷ rest ∷ []) }
     ensures ok { IfOk result (λ r. Step levels.old levels.new (item.child ∷ under.child ∷ both ∷ rest ∷ []) (r ∷ [])) }
     ensures level { IfOk result (λ r. level_of levels.new r ≡ in_parts item.span under.span (level_of levels.old under.child) (level_of levels.old both) (level_of levels.old rest)) }

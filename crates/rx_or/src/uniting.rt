@@ -10,11 +10,11 @@ ghost use Rattle.rx_level.specs.Step.{Owns, Step, level_of, between};
 ghost use Rattle.rx_or.specs.declared.uniting.Beside.TheVariants.{Left, Right, Neither};
 ghost use Rattle.rx_or.specs.Below.{union_below, ahead, past, in_parts, ArePlacedBelow};
 
+use crate::all_keys::is_all;
 use crate::covering::cover;
 use crate::pieces::{have_common, spread};
-use crate::welding::shared_item;
-use crate::wholes::is_all;
-use rx_level::{Item, Levels, Opened, join};
+use crate::stretches::shared_item;
+use rx_level::{Item, Levels, Link, Opened, Owned, join};
 use rx_value::{End, Span, compare_ends};
 use rx_weld::glue;
 use std::alloc::{AllocError, Global};
@@ -49,9 +49,9 @@ pub fn lay_items(
     levels: &mut Levels,
     alloc: Global,
     parts: &[bool],
-    g: Option<usize>,
-    h: Option<usize>,
-) -> Result<Option<usize>, AllocError>
+    g: Owned,
+    h: Owned,
+) -> Result<Owned, AllocError>
     requires owns { Owns levels.old (g ∷ h ∷ []) }
     requires first { ArePlaced parts.now (level_of levels.old g) }
     requires second { ArePlaced parts.now (level_of levels.old h) }
@@ -92,8 +92,8 @@ fn lay_item(
     alloc: Global,
     parts: &[bool],
     item: Item,
-    root: Option<usize>,
-) -> Result<Option<usize>, AllocError>
+    root: Owned,
+) -> Result<Owned, AllocError>
     requires owns { Owns levels.old (item.child ∷ root ∷ []) }
     requires alone { ArePlaced parts.now (one_item item.span (level_of levels.old item.child) no_items) }
     requires level { ArePlaced parts.now (level_of levels.old root) }
@@ -103,7 +103,7 @@ fn lay_item(
 {
     match item.child {
         Some(_) => {
-            let whole = lay_over(levels, alloc, parts, item, root)?;
+            let whole = lay_from_top(levels, alloc, parts, item, root)?;
             Ok(whole)
         }
         None => {
@@ -116,13 +116,13 @@ fn lay_item(
 // An item laid over a level, whatever its child: on one side of the topmost item where it lies apart from
 // that, else on both sides and over that.
 #[cycle(unite)]
-fn lay_over(
+fn lay_from_top(
     levels: &mut Levels,
     alloc: Global,
     parts: &[bool],
     item: Item,
-    root: Option<usize>,
-) -> Result<Option<usize>, AllocError>
+    root: Owned,
+) -> Result<Owned, AllocError>
     requires owns { Owns levels.old (item.child ∷ root ∷ []) }
     requires alone { ArePlaced parts.now (one_item item.span (level_of levels.old item.child) no_items) }
     requires level { ArePlaced parts.now (level_of levels.old root) }
@@ -140,7 +140,7 @@ fn lay_over(
     };
     match place_beside(&item.span, &top.item.span) {
         Beside::Right => {
-            let Ok(back) = lay_over(levels, alloc, parts, item, top.right) else {
+            let Ok(back) = lay_from_top(levels, alloc, parts, item, top.right) else {
                 levels.free(top.left);
                 levels.free(top.item.child);
                 return Err(AllocError);
@@ -149,7 +149,7 @@ fn lay_over(
             Ok(whole)
         }
         Beside::Left => {
-            let Ok(front) = lay_over(levels, alloc, parts, item, top.left) else {
+            let Ok(front) = lay_from_top(levels, alloc, parts, item, top.left) else {
                 levels.free(top.right);
                 levels.free(top.item.child);
                 return Err(AllocError);
@@ -158,7 +158,7 @@ fn lay_over(
             Ok(whole)
         }
         Beside::Neither => {
-            let whole = lay_across(levels, alloc, parts, item, top)?;
+            let whole = lay_at_top(levels, alloc, parts, item, top)?;
             Ok(whole)
         }
     }
@@ -167,13 +167,13 @@ fn lay_over(
 // An item laid over a level whose topmost item it reaches: what it has before that over the items to the
 // left, and the rest over that and the items to the right.
 #[cycle(unite)]
-fn lay_across(
+fn lay_at_top(
     levels: &mut Levels,
     alloc: Global,
     parts: &[bool],
     item: Item,
     top: Opened,
-) -> Result<Option<usize>, AllocError>
+) -> Result<Owned, AllocError>
     requires owns { Owns levels.old (item.child ∷ top.item.child ∷ top.left ∷ top.right ∷ []) }
     requires alone { ArePlaced parts.now (one_item item.span (level_of levels.old item.child) no_items) }
     requires level { ArePlaced parts.now (between levels.old top.left top.item top.right) }
@@ -187,13 +187,13 @@ fn lay_across(
         left,
         right,
     } = top;
-    let Ok(front) = lay_front(levels, alloc, parts, &item, &under.span.lo, left) else {
+    let Ok(front) = lay_before(levels, alloc, parts, &item, &under.span.lo, left) else {
         levels.free(item.child);
         levels.free(under.child);
         levels.free(right);
         return Err(AllocError);
     };
-    match lay_onto(levels, alloc, parts, item, under, right) {
+    match lay_on_and_behind(levels, alloc, parts, item, under, right) {
         Ok(back) => {
             let whole = glue(levels, front, back)?;
             Ok(whole)
@@ -208,14 +208,14 @@ fn lay_across(
 // What an item has before an end laid over a level. The child stays held; the level's handle is spent in
 // every case.
 #[cycle(unite)]
-fn lay_front(
+fn lay_before(
     levels: &mut Levels,
     alloc: Global,
     parts: &[bool],
     item: &Item,
     edge: &End,
-    rest: Option<usize>,
-) -> Result<Option<usize>, AllocError>
+    rest: Owned,
+) -> Result<Owned, AllocError>
     requires owns { Owns levels.old (item.now.child ∷ rest ∷ []) }
     requires alone { ArePlaced parts.now (one_item item.now.span (level_of levels.old item.now.child) no_items) }
     requires level { ArePlaced parts.now (level_of levels.old rest) }
@@ -228,7 +228,7 @@ fn lay_front(
     };
     match shared_item(levels, alloc, item.part, &item.span.lo, edge, item.child) {
         Ok(piece) => {
-            let whole = lay_over(levels, alloc, parts, piece, rest)?;
+            let whole = lay_from_top(levels, alloc, parts, piece, rest)?;
             Ok(whole)
         }
         Err(error) => {
@@ -240,14 +240,14 @@ fn lay_front(
 
 // What an item has from where another begins, laid over that and the items behind it.
 #[cycle(unite)]
-fn lay_onto(
+fn lay_on_and_behind(
     levels: &mut Levels,
     alloc: Global,
     parts: &[bool],
     item: Item,
     under: Item,
-    rest: Option<usize>,
-) -> Result<Option<usize>, AllocError>
+    rest: Owned,
+) -> Result<Owned, AllocError>
     requires owns { Owns levels.old (item.child ∷ under.child ∷ rest ∷ []) }
     requires alone { ArePlaced parts.now (one_item item.span (level_of levels.old item.child) no_items) }
     requires level { ArePlaced parts.now (one_item under.span (level_of levels.old under.child) (level_of levels.old rest)) }
@@ -255,7 +255,7 @@ fn lay_onto(
     ensures level { IfOk result (λ r. level_of levels.new r ≡ in_parts item.span under.span (level_of levels.old under.child) (union_below parts.now (level_of levels.old item.child) (level_of levels.old under.child)) (past (union_below parts.now) item.span (level_of levels.old item.child) under.span.hi (level_of levels.old rest))) }
     ensures err { OnErr result (Step levels.old levels.new (item.child ∷ under.child ∷ rest ∷ []) []) }
 {
-    let Ok(behind) = left_over(levels, alloc, parts, &item, &under, rest) else {
+    let Ok(behind) = lay_behind(levels, alloc, parts, &item, &under, rest) else {
         levels.free(item.child);
         levels.free(under.child);
         return Err(AllocError);
@@ -279,7 +279,7 @@ fn unite_common(
     parts: &[bool],
     item: &Item,
     under: &Item,
-) -> Result<Option<usize>, AllocError>
+) -> Result<Owned, AllocError>
     requires owns { Owns levels.old (item.now.child ∷ under.now.child ∷ []) }
     requires first { ArePlacedBelow parts.now (level_of levels.old item.now.child) }
     requires second { ArePlacedBelow parts.now (level_of levels.old under.now.child) }
@@ -297,14 +297,14 @@ fn unite_common(
 // What an item has behind another laid over the items after that. The children stay held; the level's
 // handle is spent in every case.
 #[cycle(unite)]
-fn left_over(
+fn lay_behind(
     levels: &mut Levels,
     alloc: Global,
     parts: &[bool],
     item: &Item,
     under: &Item,
-    rest: Option<usize>,
-) -> Result<Option<usize>, AllocError>
+    rest: Owned,
+) -> Result<Owned, AllocError>
     requires owns { Owns levels.old (item.now.child ∷ under.now.child ∷ rest ∷ []) }
     requires alone { ArePlaced parts.now (one_item item.now.span (level_of levels.old item.now.child) no_items) }
     requires level { ArePlaced parts.now (one_item under.now.span (level_of levels.old under.now.child) (level_of levels.old rest)) }
@@ -324,7 +324,7 @@ fn left_over(
         item.child,
     ) {
         Ok(piece) => {
-            let whole = lay_over(levels, alloc, parts, piece, rest)?;
+            let whole = lay_from_top(levels, alloc, parts, piece, rest)?;
             Ok(whole)
         }
         Err(error) => {
@@ -340,9 +340,9 @@ fn unite_below(
     levels: &mut Levels,
     alloc: Global,
     parts: &[bool],
-    c: Option<usize>,
-    d: Option<usize>,
-) -> Result<Option<usize>, AllocError>
+    c: Link,
+    d: Link,
+) -> Result<Owned, AllocError>
     requires owns { Owns levels.old (c ∷ d ∷ []) }
     requires first { ArePlacedBelow parts.now (level_of levels.old c) }
     requires second { ArePlacedBelow parts.now (level_of levels.old d) }

@@ -7,7 +7,8 @@ use Rattle.rx_value.specs.declared.order.Span.{Span}
 use Rattle.rx_value.specs.Order.{is_at_most}
 use Rattle.rx_value.proofs.Ends.{below-at_most-trans, greatest_end}
 use Rattle.std.proofs.Math.Bool.{or-false}
-use Rattle.rx_tree.specs.Tree.{first_of, is_whole, level_size, size, level_constrains, constrains}
+use Rattle.rx_value.specs.Spans.{first_end, is_whole_span}
+use Rattle.rx_tree.specs.Tree.{level_size, size, level_constrains, constrains}
 use Rattle.rx_tree.specs.Tree.Level.{end}
 use Rattle.rx_tree.specs.Tree.Tree.{everything, items}
 use Rattle.rx_tree.specs.Member.{IsTuple}
@@ -47,8 +48,8 @@ or_true false b e = absurd (cc e)
 items_narrow : (n : Bool) (ns : List Bool) (s : Span) (rest : List Span) → AreSpans n (s ∷ rest) → is_whole_list n (s ∷ rest) ≡ false → level_constrains (n ∷ ns) (items_of (s ∷ rest)) zero ≡ true
 items_narrow n ns s [] fits apart = ap (λ b. not b || false) apart
 items_narrow n ns s (t ∷ rest) fits apart =
-    or_true (not (is_whole n s)) (level_constrains (n ∷ ns) (items_of (t ∷ rest)) zero)
-    (not_up_to_last (is_at_most s.lo (first_of n)) (is_at_most Last s.hi) (below-at_most-trans s.hi t.lo Last fits.2.0 (greatest_end t.lo)))
+    or_true (not (is_whole_span n s)) (level_constrains (n ∷ ns) (items_of (t ∷ rest)) zero)
+    (not_up_to_last (is_at_most s.lo (first_end n)) (is_at_most Last s.hi) (below-at_most-trans s.hi t.lo Last fits.2.0 (greatest_end t.lo)))
 
 after_zero : (j : ℕ) → (suc j == 0) ≡ false
 after_zero j = grind (arith, nat_tests)

@@ -3,8 +3,8 @@ use Rattle.std.proofs.Common.{◌≡◌, ◌&&◌, ◌||◌, Bool, true, false, 
 use Rattle.std.proofs.Math.Bool.{or-true, or-false}
 use Rattle.rx_value.specs.declared.order.End.{End}
 use Rattle.rx_value.specs.declared.order.Span.{Span}
-use Rattle.rx_value.specs.Spans.{is_inside}
-use Rattle.rx_tree.specs.Tree.{Level, Tree, is_end, is_whole, whole_of}
+use Rattle.rx_value.specs.Spans.{is_inside, is_whole_span, whole_span}
+use Rattle.rx_tree.specs.Tree.{Level, Tree, is_end}
 use Rattle.rx_tree.specs.Tree.Level.{end, item}
 use Rattle.rx_tree.specs.Tree.Tree.{everything, nothing, items}
 use Rattle.rx_tree.specs.Member.{IsTuple, level_holds, child_holds, holds}
@@ -24,7 +24,7 @@ is_end-end : (l : Level) → is_end l ≡ true → l ≡ end
 is_end-end end e = refl
 is_end-end (item s c rest) e = absurd (cc e)
 
-whole_item : (n : Bool) (s : Span) (c rest : Level) → item s c rest ≡ item (whole_of n) end end → is_all n (item s c rest) ≡ true
+whole_item : (n : Bool) (s : Span) (c rest : Level) → item s c rest ≡ item (whole_span n) end end → is_all n (item s c rest) ≡ true
 whole_item n s c rest e = ap (is_all n) e ∙ ap (λ x. x && true) (whole_is_whole n)
 
 -- a level that the test doesn't find to be all isn't all
@@ -40,7 +40,7 @@ item_held s c rest p ps here below =
 pub all_holds : (n : Bool) (ns : List Bool) (l : Level) (p : End) (ps : List End) → is_all n l ≡ true → IsTuple (n ∷ ns) (p ∷ ps) → level_holds l (p ∷ ps) ≡ true
 all_holds n ns end p ps e tuple = absurd (cc e)
 all_holds n ns (item s c rest) p ps e tuple =
-    let (whole, ends) = and_parts (is_whole n s) (is_end c && is_end rest) e in
+    let (whole, ends) = and_parts (is_whole_span n s) (is_end c && is_end rest) e in
     let (below, after) = and_parts (is_end c) (is_end rest) ends in
     item_held s c rest p ps (whole_inside n s p whole tuple.0) (is_end-end c below)
 

@@ -2,24 +2,24 @@
 use Rattle.std.proofs.Common.{◌≡◌, ◌&&◌, ◌||◌, Bool, true, false, List, [], ◌∷◌, Option, Some, None, refl, ap, ap₂, sym, ◌∙◌}
 use Rattle.rx_value.specs.declared.order.End.{End}
 use Rattle.rx_value.specs.declared.order.Span.{Span}
-use Rattle.rx_value.specs.Spans.{IsAtMost, is_inside, is_inside_part, meet_span}
+use Rattle.rx_value.specs.Spans.{IsAtMost, is_inside, is_inside_part, meet_span, first_end, whole_span}
 use Rattle.rx_value.proofs.Ends.{at_most-trans, below-at_most}
 use Rattle.rx_value.proofs.Meeting.{IsMet, met, meet_span_common}
 use Rattle.std.proofs.Math.Bool.{and-true, and-false, and-or_distrib_right}
-use Rattle.rx_tree.specs.Tree.{Level, Tree, first_of, whole_of}
+use Rattle.rx_tree.specs.Tree.{Level, Tree}
 use Rattle.rx_tree.specs.Tree.Level.{end, item}
 use Rattle.rx_tree.specs.Tree.Tree.{everything, nothing, items}
 use Rattle.rx_tree.specs.Member.{IsTuple, level_holds, child_holds, holds}
 use Rattle.rx_tree.specs.Canonical.{BeginsFrom, ArePlaced, IsNotAll, IsCanonicalLevel, IsCanonical}
 use Rattle.rx_tree.specs.Weld.{glue, EndsBy}
-use Rattle.rx_tree.specs.Meet.{unless_end, meet_child, part_of, put_part, across, both, tree_of_items, tree_and}
+use Rattle.rx_tree.specs.Meet.{unless_end, meet_child, piece_of, put_piece, across, both, tree_of_items, tree_and}
 use Rattle.rx_tree.proofs.Bools.{differ, spread}
 use Rattle.rx_tree.proofs.Sets.{whole_inside, whole_is_whole}
 use Rattle.rx_tree.proofs.Unique.{some_missing}
 use Rattle.rx_tree.proofs.Welding.{Follows, begins_later, weld_placed, weld_begins, weld_ends, weld_holds, glue_placed, glue_begins, glue_holds}
 
 -- a part before a level begins where its span does
-put_begins : (e : End) (s t : Span) (m : Option Span) (c : Option Level) (rest : Level) → meet_span s t ≡ m → ((x : Span) → IsMet s t x → IsAtMost e x.lo) → BeginsFrom e rest → BeginsFrom e (put_part (part_of m c) rest)
+put_begins : (e : End) (s t : Span) (m : Option Span) (c : Option Level) (rest : Level) → meet_span s t ≡ m → ((x : Span) → IsMet s t x → IsAtMost e x.lo) → BeginsFrom e rest → BeginsFrom e (put_piece (piece_of m c) rest)
 put_begins e s t None c rest is from later = later
 put_begins e s t (Some m) None rest is from later = later
 put_begins e s t (Some m) (Some c) rest is from later = weld_begins e m c rest (from m (met s t m is))
@@ -43,7 +43,7 @@ across_begins_level f c n ns e s (item t d rest) placed from =
     (λ x m. at_most-trans e t.lo x.lo from m.second.lo)
     (across_begins_level f c n ns e s rest placed.3 (rest_begins n ns e t d rest placed from))
 
-put_ends : (s t : Span) (m : Option Span) (c : Option Level) (rest : Level) → meet_span s t ≡ m → EndsBy s.hi rest → EndsBy s.hi (put_part (part_of m c) rest)
+put_ends : (s t : Span) (m : Option Span) (c : Option Level) (rest : Level) → meet_span s t ≡ m → EndsBy s.hi rest → EndsBy s.hi (put_piece (piece_of m c) rest)
 put_ends s t None c rest is by = by
 put_ends s t (Some m) None rest is by = by
 put_ends s t (Some m) (Some c) rest is by = weld_ends s.hi m c rest (met s t m is).first.hi by
@@ -62,14 +62,14 @@ abbrev IsChildPart : List Bool → Option Level → Type 0
 IsChildPart ns None = Unit {0}
 IsChildPart ns (Some c) = IsChild ns c
 
-put_placed : (n : Bool) (ns : List Bool) (s t : Span) (m : Option Span) (c : Option Level) (rest : Level) → meet_span s t ≡ m → IsAtMost (first_of n) s.lo → IsChildPart ns c → BeginsFrom t.hi rest → ArePlaced (n ∷ ns) rest → ArePlaced (n ∷ ns) (put_part (part_of m c) rest)
+put_placed : (n : Bool) (ns : List Bool) (s t : Span) (m : Option Span) (c : Option Level) (rest : Level) → meet_span s t ≡ m → IsAtMost (first_end n) s.lo → IsChildPart ns c → BeginsFrom t.hi rest → ArePlaced (n ∷ ns) rest → ArePlaced (n ∷ ns) (put_piece (piece_of m c) rest)
 put_placed n ns s t None c rest is from child begins placed = placed
 put_placed n ns s t (Some m) None rest is from child begins placed = placed
 put_placed n ns s t (Some m) (Some c) rest is from child begins placed =
     let x = met s t m is in
     weld_placed n ns m c rest (record {
       span = x.span;
-      from = at_most-trans (first_of n) s.lo m.lo from x.first.lo;
+      from = at_most-trans (first_end n) s.lo m.lo from x.first.lo;
       rises = begins_later m.hi t.hi rest x.second.hi begins;
       not_all = child.not_all;
       child = child.placed;
@@ -77,7 +77,7 @@ put_placed n ns s t (Some m) (Some c) rest is from child begins placed =
     })
 
 -- what an item and a level have in common is in place, where what goes on below is
-across_placed : (f : Level → Level) (c : Level) (n : Bool) (ns : List Bool) (s : Span) (h : Level) → ((d : Level) → IsChild ns d → IsChildPart ns (meet_child f c d)) → IsAtMost (first_of n) s.lo → ArePlaced (n ∷ ns) h → ArePlaced (n ∷ ns) (across f c s h)
+across_placed : (f : Level → Level) (c : Level) (n : Bool) (ns : List Bool) (s : Span) (h : Level) → ((d : Level) → IsChild ns d → IsChildPart ns (meet_child f c d)) → IsAtMost (first_end n) s.lo → ArePlaced (n ∷ ns) h → ArePlaced (n ∷ ns) (across f c s h)
 across_placed f c n ns s end children from placed = tt
 across_placed f c n ns s (item t d rest) children from placed =
     put_placed n ns s t (meet_span s t) (meet_child f c d) (across f c s rest) refl from
@@ -99,15 +99,15 @@ child_law f end d ps h = refl
 child_law f (item s c rest) end ps h = sym (and-true (level_holds (item s c rest) ps))
 child_law f (item s c rest) (item t d more) ps h = unless_holds (f (item t d more)) ps ∙ h
 
-put_holds : (n : Bool) (ns : List Bool) (s t : Span) (m : Option Span) (c : Option Level) (rest : Level) (p : End) (ps : List End) → meet_span s t ≡ m → IsAtMost (first_of n) s.lo → IsChildPart ns c → BeginsFrom t.hi rest → ArePlaced (n ∷ ns) rest
-    → level_holds (put_part (part_of m c) rest) (p ∷ ps) ≡ ((is_inside_part m p && goes_on c ps) || level_holds rest (p ∷ ps))
+put_holds : (n : Bool) (ns : List Bool) (s t : Span) (m : Option Span) (c : Option Level) (rest : Level) (p : End) (ps : List End) → meet_span s t ≡ m → IsAtMost (first_end n) s.lo → IsChildPart ns c → BeginsFrom t.hi rest → ArePlaced (n ∷ ns) rest
+    → level_holds (put_piece (piece_of m c) rest) (p ∷ ps) ≡ ((is_inside_part m p && goes_on c ps) || level_holds rest (p ∷ ps))
 put_holds n ns s t None c rest p ps is from child begins placed = refl
 put_holds n ns s t (Some m) None rest p ps is from child begins placed = ap (λ x. x || level_holds rest (p ∷ ps)) (sym (and-false (is_inside m p)))
 put_holds n ns s t (Some m) (Some c) rest p ps is from child begins placed =
     let x = met s t m is in
     weld_holds n ns m c rest p ps (record {
       span = x.span;
-      from = at_most-trans (first_of n) s.lo m.lo from x.first.lo;
+      from = at_most-trans (first_end n) s.lo m.lo from x.first.lo;
       rises = begins_later m.hi t.hi rest x.second.hi begins;
       not_all = child.not_all;
       child = child.placed;
@@ -119,7 +119,7 @@ record Meets (ns : List Bool) (c : Level) : Type 0 where
   children : (d : Level) → IsChild ns d → IsChildPart ns (meet_child (both c) c d)
   holds : (d : Level) (ps : List End) → ArePlaced ns d → level_holds (both c d) ps ≡ (level_holds c ps && level_holds d ps)
 
-across_holds : (n : Bool) (ns : List Bool) (c : Level) (s : Span) (h : Level) (p : End) (ps : List End) → Meets ns c → IsAtMost (first_of n) s.lo → ArePlaced (n ∷ ns) h
+across_holds : (n : Bool) (ns : List Bool) (c : Level) (s : Span) (h : Level) (p : End) (ps : List End) → Meets ns c → IsAtMost (first_end n) s.lo → ArePlaced (n ∷ ns) h
     → level_holds (across (both c) c s h) (p ∷ ps) ≡ ((is_inside s p && child_holds c ps) && level_holds h (p ∷ ps))
 across_holds n ns c s end p ps meets from placed = sym (and-false (is_inside s p && child_holds c ps))
 across_holds n ns c s (item t d rest) p ps meets from placed =
@@ -145,9 +145,9 @@ pub record IsMetRight (ns : List Bool) (a : Level) : Type 0 where
   pub placed : (b : Level) → ArePlaced ns b → ArePlaced ns (both a b)
   pub holds : (b : Level) (ps : List End) → ArePlaced ns b → level_holds (both a b) ps ≡ (level_holds a ps && level_holds b ps)
 
-all_held : (n : Bool) (ns : List Bool) (ps : List End) → IsTuple (n ∷ ns) ps → level_holds (item (whole_of n) end end) ps ≡ true
+all_held : (n : Bool) (ns : List Bool) (ps : List End) → IsTuple (n ∷ ns) ps → level_holds (item (whole_span n) end end) ps ≡ true
 all_held n ns [] fits = absurd fits
-all_held n ns (p ∷ ps) fits = rw (whole_inside n (whole_of n) p (whole_is_whole n) fits.0) refl
+all_held n ns (p ∷ ps) fits = rw (whole_inside n (whole_span n) p (whole_is_whole n) fits.0) refl
 
 -- what a level that isn't all has in common with another isn't all
 both_not_all : (ns : List Bool) (s : Span) (c rest b : Level) → ArePlaced ns (item s c rest) → IsNotAll ns (item s c rest) → IsMetRight ns (item s c rest) → ArePlaced ns b → IsNotAll ns (both (item s c rest) b)

@@ -11,7 +11,7 @@ use Rattle.rx_tree.specs.Tree.Level.{end, item}
 use Rattle.rx_tree.specs.Member.{level_holds, child_holds}
 use Rattle.rx_tree.specs.Canonical.{BeginsFrom, Differs, ArePlaced}
 use Rattle.rx_tree.specs.Weld.{weld, glue, EndsBy}
-use Rattle.rx_tree.specs.Meet.{put_part, part_of, Part, meet_child, across, both}
+use Rattle.rx_tree.specs.Meet.{put_piece, piece_of, Piece, meet_child, across, both}
 use Rattle.rx_tree.specs.Join.{join_level, length_of}
 use Rattle.rx_tree.proofs.Places.{nothing_before, held_inside}
 use Rattle.rx_tree.proofs.Welding.{weld_apart, glue-weld, glue_assoc}
@@ -105,7 +105,7 @@ glue-join n ns end b placed = refl
 glue-join n ns (item s c rest) b placed =
     ap (weld s c) (glue-join n ns rest b placed.3) ∙ weld_apart s c (join_level rest b) placed.0.differs
 
-put-glue : (p : Option Part) (a b : Level) → put_part p (glue a b) ≡ glue (put_part p a) b
+put-glue : (p : Option Piece) (a b : Level) → put_piece p (glue a b) ≡ glue (put_piece p a) b
 put-glue None a b = refl
 put-glue (Some p) a b = sym (glue-weld p.span p.below a b)
 
@@ -113,8 +113,8 @@ put-glue (Some p) a b = sym (glue-weld p.span p.below a b)
 pub across-join : (f : Level → Level) (c : Level) (s : Span) (a b : Level) → across f c s (join_level a b) ≡ glue (across f c s a) (across f c s b)
 across-join f c s end b = refl
 across-join f c s (item t d rest) b =
-    ap (put_part (part_of (meet_span s t) (meet_child f c d))) (across-join f c s rest b)
-    ∙ put-glue (part_of (meet_span s t) (meet_child f c d)) (across f c s rest) (across f c s b)
+    ap (put_piece (piece_of (meet_span s t) (meet_child f c d))) (across-join f c s rest b)
+    ∙ put-glue (piece_of (meet_span s t) (meet_child f c d)) (across f c s rest) (across f c s b)
 
 -- what levels one after another have in common with a level
 pub both-join : (a b h : Level) → both (join_level a b) h ≡ glue (both a h) (both b h)

@@ -6,9 +6,9 @@ use Rattle.std.proofs.Math.Bool.{or_assoc}
 use Rattle.rx_value.specs.declared.order.End.{End}
 use Rattle.rx_value.specs.declared.order.Span.{Span}
 use Rattle.rx_value.specs.Order.{end_cmp, is_at_most}
-use Rattle.rx_value.specs.Spans.{IsAtMost, IsBelow, IsSpan, is_inside}
+use Rattle.rx_value.specs.Spans.{IsAtMost, IsBelow, IsSpan, is_inside, first_end}
 use Rattle.rx_value.proofs.Ends.{at_most-same, at_most-trans, below-at_most, below-from_less, at_most-from_equal, end_cmp-equal}
-use Rattle.rx_tree.specs.Tree.{Level, first_of}
+use Rattle.rx_tree.specs.Tree.{Level}
 use Rattle.rx_tree.specs.Tree.Level.{end, item}
 use Rattle.rx_tree.specs.Member.{IsTuple, level_holds, child_holds}
 use Rattle.rx_tree.specs.Canonical.{BeginsFrom, ArePlaced}
@@ -27,7 +27,7 @@ pub record IsEither (ns : List Bool) (f : Level → Level → Level) : Type 0 wh
 -- an item that may stand somewhere in a level
 pub record IsNew (n : Bool) (ns : List Bool) (s : Span) (c : Level) : Type 0 where
   pub span : IsSpan s
-  pub from : IsAtMost (first_of n) s.lo
+  pub from : IsAtMost (first_end n) s.lo
   pub child : IsChild ns c
 
 -- a level is that of an item laid over another
@@ -103,7 +103,7 @@ left_by f n ns s c t d rest Greater e placed new after =
     let u : Span = record { lo = t.hi; hi = s.hi } in
     let laid = after u (record {
       span = ap (λ o. elim o [ Greater ↦ false | _ ↦ true ]) e;
-      from = at_most-trans (first_of n) t.lo t.hi placed.0.from (below-at_most t.lo t.hi placed.0.span);
+      from = at_most-trans (first_end n) t.lo t.hi placed.0.from (below-at_most t.lo t.hi placed.0.span);
       child = new.child;
     }) in
     record {

@@ -5,13 +5,13 @@ use Rattle.std.specs.declared.cmp.Ordering.TheVariants.{Less, Equal, Greater}
 use Rattle.rx_value.specs.declared.order.End.{End}
 use Rattle.rx_value.specs.declared.order.Span.{Span}
 use Rattle.rx_value.specs.Order.{end_cmp, is_at_most}
-use Rattle.rx_value.specs.Spans.{IsAtMost, IsBelow, IsSpan, is_inside, later, earlier}
+use Rattle.rx_value.specs.Spans.{IsAtMost, IsBelow, IsSpan, is_inside, later, earlier, first_end}
 use Rattle.rx_value.proofs.Ends.{at_most-same, at_most-trans, below-at_most, below-from_less, at_most-from_equal, at_most-from_greater, end_cmp-equal}
-use Rattle.rx_tree.specs.Tree.{Level, first_of}
+use Rattle.rx_tree.specs.Tree.{Level}
 use Rattle.rx_tree.specs.Member.{level_holds, child_holds}
 use Rattle.rx_tree.specs.Canonical.{BeginsFrom, ArePlaced}
-use Rattle.rx_tree.specs.Meet.{part_of, put_part}
-use Rattle.rx_tree.specs.Union.{between, overlaid}
+use Rattle.rx_tree.specs.Meet.{piece_of, put_piece}
+use Rattle.rx_tree.specs.Union.{piece_between, overlaid}
 use Rattle.rx_value.proofs.Meeting.{later_at_most, earlier_at_most}
 use Rattle.rx_tree.proofs.Bools.{spans_over, and_parts, no_gap}
 use Rattle.rx_tree.proofs.Welding.{Fits, weld_placed, weld_begins, weld_holds, begins_later}
@@ -19,7 +19,7 @@ use Rattle.rx_tree.proofs.Intersection.{IsChild}
 
 -- What may stand between two ends before a level.
 pub record MayStand (n : Bool) (ns : List Bool) (lo hi : End) (c rest : Level) : Type 0 where
-  pub from : IsAtMost (first_of n) lo
+  pub from : IsAtMost (first_end n) lo
   pub rises : BeginsFrom hi rest
   pub child : IsChild ns c
   pub after : ArePlaced (n ∷ ns) rest
@@ -28,14 +28,14 @@ may_fit : (n : Bool) (ns : List Bool) (lo hi : End) (c rest : Level) → MayStan
 may_fit n ns lo hi c rest m low = record { span = low; from = m.from; rises = m.rises; not_all = m.child.not_all; child = m.child.placed; after = m.after }
 
 abbrev put_at : End → End → Level → Level → Ordering → Level
-put_at lo hi c rest o = put_part (part_of (elim o [ Less ↦ Some (record { lo = lo; hi = hi }) | _ ↦ None ]) (Some c)) rest
+put_at lo hi c rest o = put_piece (piece_of (elim o [ Less ↦ Some (record { lo = lo; hi = hi }) | _ ↦ None ]) (Some c)) rest
 
 placed_by : (n : Bool) (ns : List Bool) (lo hi : End) (c rest : Level) (o : Ordering) → end_cmp lo hi ≡ o → MayStand n ns lo hi c rest → ArePlaced (n ∷ ns) (put_at lo hi c rest o)
 placed_by n ns lo hi c rest Less e m = weld_placed n ns (record { lo = lo; hi = hi }) c rest (may_fit n ns lo hi c rest m (below-from_less lo hi e))
 placed_by n ns lo hi c rest Equal e m = m.after
 placed_by n ns lo hi c rest Greater e m = m.after
 
-pub between_placed : (n : Bool) (ns : List Bool) (lo hi : End) (c rest : Level) → MayStand n ns lo hi c rest → ArePlaced (n ∷ ns) (between lo hi c rest)
+pub between_placed : (n : Bool) (ns : List Bool) (lo hi : End) (c rest : Level) → MayStand n ns lo hi c rest → ArePlaced (n ∷ ns) (piece_between lo hi c rest)
 between_placed n ns lo hi c rest m = placed_by n ns lo hi c rest (end_cmp lo hi) refl m
 
 begins_by : (e lo hi : End) (c rest : Level) (o : Ordering) → IsAtMost e lo → BeginsFrom e rest → BeginsFrom e (put_at lo hi c rest o)
@@ -43,7 +43,7 @@ begins_by e lo hi c rest Less from later = weld_begins e (record { lo = lo; hi =
 begins_by e lo hi c rest Equal from later = later
 begins_by e lo hi c rest Greater from later = later
 
-pub between_begins : (e lo hi : End) (c rest : Level) → IsAtMost e lo → BeginsFrom e rest → BeginsFrom e (between lo hi c rest)
+pub between_begins : (e lo hi : End) (c rest : Level) → IsAtMost e lo → BeginsFrom e rest → BeginsFrom e (piece_between lo hi c rest)
 between_begins e lo hi c rest from later = begins_by e lo hi c rest (end_cmp lo hi) from later
 
 holds_by : (n : Bool) (ns : List Bool) (lo hi : End) (c rest : Level) (p : End) (ps : List End) (o : Ordering) → end_cmp lo hi ≡ o → MayStand n ns lo hi c rest
@@ -57,7 +57,7 @@ holds_by n ns lo hi c rest p ps Greater e m =
     (sym (no_gap (is_at_most lo p) (is_at_most hi p) (λ h. at_most-trans hi lo p (at_most-from_greater lo hi e) h)))
 
 pub between_holds : (n : Bool) (ns : List Bool) (lo hi : End) (c rest : Level) (p : End) (ps : List End) → MayStand n ns lo hi c rest
-    → level_holds (between lo hi c rest) (p ∷ ps) ≡ (((is_at_most lo p && not (is_at_most hi p)) && child_holds c ps) || level_holds rest (p ∷ ps))
+    → level_holds (piece_between lo hi c rest) (p ∷ ps) ≡ (((is_at_most lo p && not (is_at_most hi p)) && child_holds c ps) || level_holds rest (p ∷ ps))
 between_holds n ns lo hi c rest p ps m = holds_by n ns lo hi c rest p ps (end_cmp lo hi) refl m
 
 -- two spans that overlap, over children that may stand in a level
@@ -66,8 +66,8 @@ pub record Overlap (n : Bool) (ns : List Bool) (s t : Span) (c d : Level) : Type
   pub second : IsSpan t
   pub reaches : IsBelow s.lo t.hi
   pub reached : IsBelow t.lo s.hi
-  pub from : IsAtMost (first_of n) s.lo
-  pub from_second : IsAtMost (first_of n) t.lo
+  pub from : IsAtMost (first_end n) s.lo
+  pub from_second : IsAtMost (first_end n) t.lo
   pub child : IsChild ns c
   pub below : IsChild ns d
 
@@ -94,7 +94,7 @@ earlier_second a b = earlier_at_most a b b ∙ or_right (is_at_most a b) (is_at_
 
 behind_stands : (n : Bool) (ns : List Bool) (s t : Span) (c d rest : Level) → Overlap n ns s t c d → Stands n ns t.hi rest → MayStand n ns s.hi t.hi d rest
 behind_stands n ns s t c d rest o r = record {
-  from = at_most-trans (first_of n) s.lo s.hi o.from (below-at_most s.lo s.hi o.first);
+  from = at_most-trans (first_end n) s.lo s.hi o.from (below-at_most s.lo s.hi o.first);
   rises = r.begins;
   child = o.below;
   after = r.placed;
@@ -102,7 +102,7 @@ behind_stands n ns s t c d rest o r = record {
 
 -- the part that the second span has alone behind the first
 abbrev pub behind : Span → Span → Level → Level → Level
-behind s t d rest = between s.hi t.hi d rest
+behind s t d rest = piece_between s.hi t.hi d rest
 
 behind_begins : (n : Bool) (ns : List Bool) (s t : Span) (d rest : Level) → Stands n ns t.hi rest → BeginsFrom (earlier s.hi t.hi) (behind s t d rest)
 behind_begins n ns s t d rest r =
@@ -111,7 +111,7 @@ behind_begins n ns s t d rest r =
 
 middle_stands : (n : Bool) (ns : List Bool) (s t : Span) (c d e rest : Level) → Overlap n ns s t c d → IsChild ns e → Stands n ns t.hi rest → MayStand n ns (later s.lo t.lo) (earlier s.hi t.hi) e (behind s t d rest)
 middle_stands n ns s t c d e rest o child r = record {
-  from = at_most-trans (first_of n) s.lo (later s.lo t.lo) o.from (later_first s.lo t.lo);
+  from = at_most-trans (first_end n) s.lo (later s.lo t.lo) o.from (later_first s.lo t.lo);
   rises = behind_begins n ns s t d rest r;
   child = child;
   after = between_placed n ns s.hi t.hi d rest (behind_stands n ns s t c d rest o r);
@@ -119,7 +119,7 @@ middle_stands n ns s t c d e rest o child r = record {
 
 -- the part that both spans have, and what follows
 abbrev pub middle : Span → Span → Level → Level → Level → Level
-middle s t d e rest = between (later s.lo t.lo) (earlier s.hi t.hi) e (behind s t d rest)
+middle s t d e rest = piece_between (later s.lo t.lo) (earlier s.hi t.hi) e (behind s t d rest)
 
 -- each of these ends is at most where the parts of both begin and end
 middle_begins : (n : Bool) (ns : List Bool) (low : End) (s t : Span) (d e rest : Level) → IsAtMost low (later s.lo t.lo) → IsAtMost low (earlier s.hi t.hi) → Stands n ns t.hi rest → BeginsFrom low (middle s t d e rest)
@@ -147,7 +147,7 @@ second_stands n ns s t c d e rest o child r = record {
   after = between_placed n ns (later s.lo t.lo) (earlier s.hi t.hi) e (behind s t d rest) (middle_stands n ns s t c d e rest o child r);
 }
 
-first_stands : (n : Bool) (ns : List Bool) (s t : Span) (c d e rest : Level) → Overlap n ns s t c d → IsChild ns e → Stands n ns t.hi rest → MayStand n ns s.lo t.lo c (between t.lo s.lo d (middle s t d e rest))
+first_stands : (n : Bool) (ns : List Bool) (s t : Span) (c d e rest : Level) → Overlap n ns s t c d → IsChild ns e → Stands n ns t.hi rest → MayStand n ns s.lo t.lo c (piece_between t.lo s.lo d (middle s t d e rest))
 first_stands n ns s t c d e rest o child r = record {
   from = o.from;
   rises = between_begins t.lo t.lo s.lo d (middle s t d e rest) (at_most-same t.lo)
@@ -159,12 +159,12 @@ first_stands n ns s t c d e rest o child r = record {
 -- the parts of two spans that overlap are in place
 pub overlaid_placed : (f : Level → Level → Level) (n : Bool) (ns : List Bool) (s t : Span) (c d rest : Level) → Overlap n ns s t c d → IsChild ns (f c d) → Stands n ns t.hi rest → ArePlaced (n ∷ ns) (overlaid f s c t d rest)
 overlaid_placed f n ns s t c d rest o child r =
-    between_placed n ns s.lo t.lo c (between t.lo s.lo d (middle s t d (f c d) rest)) (first_stands n ns s t c d (f c d) rest o child r)
+    between_placed n ns s.lo t.lo c (piece_between t.lo s.lo d (middle s t d (f c d) rest)) (first_stands n ns s t c d (f c d) rest o child r)
 
 -- they begin where either begins
 pub overlaid_begins : (f : Level → Level → Level) (n : Bool) (ns : List Bool) (e : End) (s t : Span) (c d rest : Level) → Overlap n ns s t c d → Stands n ns t.hi rest → IsAtMost e s.lo → IsAtMost e t.lo → BeginsFrom e (overlaid f s c t d rest)
 overlaid_begins f n ns e s t c d rest o r from on =
-    between_begins e s.lo t.lo c (between t.lo s.lo d (middle s t d (f c d) rest)) from
+    between_begins e s.lo t.lo c (piece_between t.lo s.lo d (middle s t d (f c d) rest)) from
     (between_begins e t.lo s.lo d (middle s t d (f c d) rest) on
     (middle_begins n ns e s t d (f c d) rest
     (at_most-trans e s.lo (later s.lo t.lo) from (later_first s.lo t.lo))
@@ -186,7 +186,7 @@ overlaid_holds f n ns s t c d rest more p ps o child r both after =
     let y = is_at_most t.hi p in
     let C = child_holds c ps in
     let D = child_holds d ps in
-    between_holds n ns s.lo t.lo c (between t.lo s.lo d (middle s t d (f c d) rest)) p ps (first_stands n ns s t c d (f c d) rest o child r)
+    between_holds n ns s.lo t.lo c (piece_between t.lo s.lo d (middle s t d (f c d) rest)) p ps (first_stands n ns s t c d (f c d) rest o child r)
     ∙ ap (λ z. ((a && not b) && C) || z) (between_holds n ns t.lo s.lo d (middle s t d (f c d) rest) p ps (second_stands n ns s t c d (f c d) rest o child r))
     ∙ ap (λ z. ((a && not b) && C) || (((b && not a) && D) || z))
     (between_holds n ns (later s.lo t.lo) (earlier s.hi t.hi) (f c d) (behind s t d rest) p ps (middle_stands n ns s t c d (f c d) rest o child r)

@@ -3,23 +3,23 @@ use Rattle.std.proofs.Common.{◌≡◌, Bool, true, false, List, [], ◌∷◌,
 use Rattle.rx_value.specs.declared.order.End.{End}
 use Rattle.rx_value.specs.declared.order.End.TheVariants.{Last}
 use Rattle.rx_value.specs.declared.order.Span.{Span}
-use Rattle.rx_value.specs.Spans.{IsAtMost, IsBelow}
+use Rattle.rx_value.specs.Spans.{IsAtMost, IsBelow, first_end}
 use Rattle.rx_value.proofs.Meeting.{inside, outside_below, outside_above}
 use Rattle.rx_value.proofs.Ends.{at_most-same, at_most-trans, below-at_most, below-at_most-trans, below-trans, below-cut}
 use Rattle.std.proofs.Math.Bool.{or-false}
-use Rattle.rx_tree.specs.Tree.{Level, first_of}
+use Rattle.rx_tree.specs.Tree.{Level}
 use Rattle.rx_tree.specs.Tree.Level.{end, item}
 use Rattle.rx_tree.specs.Member.{IsPosition, IsTuple, level_holds, child_holds}
 use Rattle.rx_tree.specs.Canonical.{BeginsFrom, IsPlaced, ArePlaced}
 
-pub first_cut : (n : Bool) → IsPosition n (first_of n)
+pub first_cut : (n : Bool) → IsPosition n (first_end n)
 first_cut true = record { from = refl; cut = refl }
 first_cut false = record { from = refl; cut = refl }
 
 -- the first positions of all parts
 abbrev pub firsts : List Bool → List End
 firsts [] = []
-firsts (n ∷ ns) = first_of n ∷ firsts ns
+firsts (n ∷ ns) = first_end n ∷ firsts ns
 
 pub firsts_fit : (ns : List Bool) → IsTuple ns (firsts ns)
 firsts_fit [] = tt
@@ -53,6 +53,6 @@ lower_position n s c rest placed = record { from = placed.from; cut = below-cut 
 -- the upper end of an item, where it is a cut, is a position of its part
 pub upper_position : (n : Bool) (s : Span) (c rest : Level) → IsPlaced n s c rest → IsBelow s.hi Last → IsPosition n s.hi
 upper_position n s c rest placed cut = record {
-  from = at_most-trans (first_of n) s.lo s.hi placed.from (below-at_most s.lo s.hi placed.span);
+  from = at_most-trans (first_end n) s.lo s.hi placed.from (below-at_most s.lo s.hi placed.span);
   cut = cut;
 }

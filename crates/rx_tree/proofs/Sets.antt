@@ -4,10 +4,10 @@ use Rattle.rx_value.specs.declared.order.End.{End}
 use Rattle.rx_value.specs.declared.order.End.TheVariants.{Last}
 use Rattle.rx_value.specs.declared.order.Span.{Span}
 use Rattle.rx_value.specs.Order.{is_at_most}
-use Rattle.rx_value.specs.Spans.{IsAtMost, IsBelow, IsSpan, is_inside}
+use Rattle.rx_value.specs.Spans.{IsAtMost, IsBelow, IsSpan, is_inside, first_end, whole_span, is_whole_span}
 use Rattle.rx_value.proofs.Ends.{at_most-same, at_most-trans, below-at_most, below-at_most-trans, below-irrefl}
 use Rattle.std.proofs.Math.Bool.{and-true, or-false}
-use Rattle.rx_tree.specs.Tree.{Level, first_of, whole_of, is_whole}
+use Rattle.rx_tree.specs.Tree.{Level}
 use Rattle.rx_tree.specs.Tree.Level.{end, item}
 use Rattle.rx_tree.specs.Tree.Tree.{everything, items}
 use Rattle.rx_tree.specs.Member.{IsPosition, IsTuple, level_holds, child_holds, holds}
@@ -28,26 +28,26 @@ differs : (s : Span) (spans : List Span) → AreApart s.hi spans → Differs s e
 differs s [] apart = tt
 differs s (t ∷ rest) apart = λ touch same. below-irrefl t.lo (subst (λ (e : End). IsBelow e t.lo) touch apart.0)
 
-rest_placed : (n : Bool) (ns : List Bool) (e : End) (spans : List Span) → IsAtMost (first_of n) e → AreApart e spans → ArePlaced (n ∷ ns) (items_of spans)
+rest_placed : (n : Bool) (ns : List Bool) (e : End) (spans : List Span) → IsAtMost (first_end n) e → AreApart e spans → ArePlaced (n ∷ ns) (items_of spans)
 rest_placed n ns e [] from apart = tt
 rest_placed n ns e (s ∷ rest) from apart =
-    let lower = at_most-trans (first_of n) e s.lo from (below-at_most e s.lo apart.0) in
-    let upper = at_most-trans (first_of n) s.lo s.hi lower (below-at_most s.lo s.hi apart.1) in
+    let lower = at_most-trans (first_end n) e s.lo from (below-at_most e s.lo apart.0) in
+    let upper = at_most-trans (first_end n) s.lo s.hi lower (below-at_most s.lo s.hi apart.1) in
     (record { span = apart.1; from = lower; rises = begins s.hi rest apart.2; differs = differs s rest apart.2 }, end_not_all ns, tt, rest_placed n ns s.hi rest upper apart.2)
 
-items_placed : (n : Bool) (ns : List Bool) (s : Span) (rest : List Span) → IsAtMost (first_of n) s.lo → IsSpan s → AreApart s.hi rest → ArePlaced (n ∷ ns) (items_of (s ∷ rest))
+items_placed : (n : Bool) (ns : List Bool) (s : Span) (rest : List Span) → IsAtMost (first_end n) s.lo → IsSpan s → AreApart s.hi rest → ArePlaced (n ∷ ns) (items_of (s ∷ rest))
 items_placed n ns s rest from span apart = (
   record { span = span; from = from; rises = begins s.hi rest apart; differs = differs s rest apart },
   end_not_all ns,
   tt,
-  rest_placed n ns s.hi rest (at_most-trans (first_of n) s.lo s.hi from (below-at_most s.lo s.hi span)) apart,
+  rest_placed n ns s.hi rest (at_most-trans (first_end n) s.lo s.hi from (below-at_most s.lo s.hi span)) apart,
 )
 
-pub whole_span : (n : Bool) → IsSpan (whole_of n)
-whole_span true = refl
-whole_span false = refl
+pub whole_is_span : (n : Bool) → IsSpan (whole_span n)
+whole_is_span true = refl
+whole_is_span false = refl
 
-pub whole_is_whole : (n : Bool) → is_whole n (whole_of n) ≡ true
+pub whole_is_whole : (n : Bool) → is_whole_span n (whole_span n) ≡ true
 whole_is_whole true = refl
 whole_is_whole false = refl
 
@@ -58,8 +58,8 @@ some_items (n ∷ ns) (suc k) s rest fits e = absurd (cc e)
 
 list_not_all : (n : Bool) (ns : List Bool) (s : Span) (rest : List Span) → is_whole_list n (s ∷ rest) ≡ false → IsNotAll (n ∷ ns) (items_of (s ∷ rest))
 list_not_all n ns s [] apart e =
-    let is : s ≡ whole_of n = cc e in
-    absurd (cc (sym (ap (is_whole n) is ∙ whole_is_whole n) ∙ apart))
+    let is : s ≡ whole_span n = cc e in
+    absurd (cc (sym (ap (is_whole_span n) is ∙ whole_is_whole n) ∙ apart))
 list_not_all n ns s (t ∷ rest) apart e = absurd (cc e)
 
 -- the items of a point set that isn't all are a canonical level
@@ -69,7 +69,7 @@ items_canonical (n ∷ ns) zero s rest fits apart = record { placed = items_plac
 items_canonical (n ∷ ns) (suc k) s rest fits apart =
     let below = items_canonical ns k s rest fits apart in
     record {
-      placed = (record { span = whole_span n; from = at_most-same (first_of n); rises = tt; differs = tt }, below.not_all, below.placed, tt);
+      placed = (record { span = whole_is_span n; from = at_most-same (first_end n); rises = tt; differs = tt }, below.not_all, below.placed, tt);
       not_all = λ e. some_items ns k s rest fits (cc e);
     }
 
@@ -95,17 +95,17 @@ child_is_level end ps some = absurd (some refl)
 child_is_level (item s c rest) ps some = refl
 
 -- a whole span holds each position of its part
-pub whole_inside : (n : Bool) (s : Span) (p : End) → is_whole n s ≡ true → IsPosition n p → is_inside s p ≡ true
+pub whole_inside : (n : Bool) (s : Span) (p : End) → is_whole_span n s ≡ true → IsPosition n p → is_inside s p ≡ true
 whole_inside n s p whole here =
-    let (lo, hi) = and_parts (is_at_most s.lo (first_of n)) (is_at_most Last s.hi) whole in
-    inside s p (at_most-trans s.lo (first_of n) p lo here.from) (below-at_most-trans p Last s.hi here.cut hi)
+    let (lo, hi) = and_parts (is_at_most s.lo (first_end n)) (is_at_most Last s.hi) whole in
+    inside s p (at_most-trans s.lo (first_end n) p lo here.from) (below-at_most-trans p Last s.hi here.cut hi)
 
 level_at : (parts : List Bool) (k : ℕ) (s : Span) (rest : List Span) (ps : List End) → AreSpansAt parts k (s ∷ rest) → IsTuple parts ps → level_holds (items_at parts k (s ∷ rest)) ps ≡ is_inside_at k (s ∷ rest) ps
 level_at [] k s rest ps fits tuple = absurd fits
 level_at (n ∷ ns) k s rest [] fits tuple = absurd tuple
 level_at (n ∷ ns) zero s rest (p ∷ ps) fits tuple = items_hold (s ∷ rest) p ps
 level_at (n ∷ ns) (suc k) s rest (p ∷ ps) fits tuple =
-    ap (λ x. (x && child_holds (items_at ns k (s ∷ rest)) ps) || false) (whole_inside n (whole_of n) p (whole_is_whole n) tuple.0)
+    ap (λ x. (x && child_holds (items_at ns k (s ∷ rest)) ps) || false) (whole_inside n (whole_span n) p (whole_is_whole n) tuple.0)
     ∙ or-false (child_holds (items_at ns k (s ∷ rest)) ps)
     ∙ child_is_level (items_at ns k (s ∷ rest)) ps (some_items ns k s rest fits)
     ∙ level_at ns k s rest ps fits tuple.1

@@ -3,9 +3,9 @@ use Rattle.std.proofs.Common.{◌≡◌, inl, inr, Bool, true, false, List, [], 
 use Rattle.rx_value.specs.declared.order.End.{End}
 use Rattle.rx_value.specs.declared.order.End.TheVariants.{Last}
 use Rattle.rx_value.specs.declared.order.Span.{Span}
-use Rattle.rx_value.specs.Spans.{IsAtMost, IsBelow}
+use Rattle.rx_value.specs.Spans.{IsAtMost, IsBelow, first_end, whole_span}
 use Rattle.rx_value.proofs.Ends.{at_most-same, at_most-trans, at_most-antisym, at_most-from_equal, at_most-equal_or_below, below-at_most, below-cut, ends_split, greatest_end}
-use Rattle.rx_tree.specs.Tree.{Level, Tree, first_of, whole_of}
+use Rattle.rx_tree.specs.Tree.{Level, Tree}
 use Rattle.rx_tree.specs.Tree.Level.{end, item}
 use Rattle.rx_tree.specs.Tree.Tree.{everything, nothing, items}
 use Rattle.rx_tree.specs.Member.{IsTuple, HoldSame, level_holds, child_holds}
@@ -28,11 +28,11 @@ some_held (n ∷ ns) (item s c rest) placed =
     record { tuple = s.lo ∷ w.tuple; fits = (lower_position n s c rest placed.0, w.fits); is = held_at_lower n ns s c rest w.tuple placed ∙ w.is }
 
 -- an item without a child that begins above the first position leaves that out
-missing_before : (n : Bool) (ns : List Bool) (l : Level) (e : End) → ArePlaced (n ∷ ns) l → BeginsFrom e l → IsBelow (first_of n) e → Witness (n ∷ ns) (level_holds l) false
+missing_before : (n : Bool) (ns : List Bool) (l : Level) (e : End) → ArePlaced (n ∷ ns) l → BeginsFrom e l → IsBelow (first_end n) e → Witness (n ∷ ns) (level_holds l) false
 missing_before n ns l e placed begins low = record {
-  tuple = first_of n ∷ firsts ns;
+  tuple = first_end n ∷ firsts ns;
   fits = (first_cut n, firsts_fit ns);
-  is = nothing_before n ns l e (first_of n) (firsts ns) placed begins low;
+  is = nothing_before n ns l e (first_end n) (firsts ns) placed begins low;
 }
 
 -- what is left out from the first item's upper end on
@@ -43,16 +43,16 @@ missing_at_upper n ns s c rest e placed cut begins low = record {
   is = held_after s c rest s.hi (firsts ns) (at_most-same s.hi) ∙ nothing_before n ns rest e s.hi (firsts ns) placed.3 begins low;
 }
 
-whole_span : (n : Bool) (s : Span) → first_of n ≡ s.lo → s.hi ≡ Last → s ≡ whole_of n
-whole_span n s lo hi = λ i. record { lo = sym lo i; hi = hi i }
+whole_by_ends : (n : Bool) (s : Span) → first_end n ≡ s.lo → s.hi ≡ Last → s ≡ whole_span n
+whole_by_ends n s lo hi = λ i. record { lo = sym lo i; hi = hi i }
 
 -- one item without a child that isn't whole
 missing_alone : (n : Bool) (ns : List Bool) (s : Span) → ArePlaced (n ∷ ns) (item s end end) → IsNotAll (n ∷ ns) (item s end end) → Witness (n ∷ ns) (level_holds (item s end end)) false
-missing_alone n ns s placed not_all = elim (at_most-equal_or_below (first_of n) s.lo placed.0.from) [
+missing_alone n ns s placed not_all = elim (at_most-equal_or_below (first_end n) s.lo placed.0.from) [
   | inr low ↦ missing_before n ns (item s end end) s.lo placed (at_most-same s.lo) low
   | inl lo ↦ elim (at_most-equal_or_below s.hi Last (greatest_end s.hi)) [
     | inr cut ↦ missing_at_upper n ns s end end Last placed cut tt cut
-    | inl hi ↦ absurd (not_all (ap (λ x. item x end end) (whole_span n s lo hi)))
+    | inl hi ↦ absurd (not_all (ap (λ x. item x end end) (whole_by_ends n s lo hi)))
   ]
 ]
 

@@ -6,11 +6,11 @@ use Rattle.std.proofs.lemmas.Cmp.{tied_itself}
 use Rattle.rx_value.specs.declared.order.End.{End}
 use Rattle.rx_value.specs.declared.order.Span.{Span}
 use Rattle.rx_value.specs.Order.{end_cmp, is_at_most}
-use Rattle.rx_value.specs.Spans.{IsAtMost, IsSpan, is_inside}
+use Rattle.rx_value.specs.Spans.{IsAtMost, IsSpan, is_inside, first_end}
 use Rattle.rx_value.proofs.Ends.{end_cmp_total, end_cmp-equal, at_most-trans, at_most-from_equal, below-at_most, below-at_most-trans}
 use Rattle.std.proofs.Math.Bool.{or_assoc}
 use Rattle.rx_tree.proofs.Bools.{and_parts, or_and, split_by}
-use Rattle.rx_tree.specs.Tree.{Level, first_of}
+use Rattle.rx_tree.specs.Tree.{Level}
 use Rattle.rx_tree.specs.Tree.Level.{end, item}
 use Rattle.rx_tree.specs.Member.{level_holds, child_holds}
 use Rattle.rx_tree.specs.Canonical.{BeginsFrom, Differs, ArePlaced, IsNotAll}
@@ -54,7 +54,7 @@ same_level-itself (item s c rest) = rw (same_end-itself s.lo, same_end-itself s.
 -- An item that may stand before others: its ends rise, it begins in its part and ends before they begin, and its child is as it must be.
 pub record Fits (n : Bool) (ns : List Bool) (s : Span) (c rest : Level) : Type 0 where
   pub span : IsSpan s
-  pub from : IsAtMost (first_of n) s.lo
+  pub from : IsAtMost (first_end n) s.lo
   pub rises : BeginsFrom s.hi rest
   pub not_all : IsNotAll ns c
   pub child : ArePlaced ns c

@@ -2,8 +2,8 @@
 use Rattle.std.specs.Prelude.{◌≡◌, Bool, List, [], ◌∷◌}
 use Rattle.rx_value.specs.declared.order.End.{End}
 use Rattle.rx_value.specs.declared.order.Span.{Span}
-use Rattle.rx_value.specs.Spans.{IsAtMost, IsSpan}
-use Rattle.rx_tree.specs.Tree.{Level, Tree, first_of, whole_of}
+use Rattle.rx_value.specs.Spans.{IsAtMost, IsSpan, first_end, whole_span}
+use Rattle.rx_tree.specs.Tree.{Level, Tree}
 use Rattle.rx_tree.specs.Tree.Level.{end, item}
 use Rattle.rx_tree.specs.Tree.Tree.{everything, nothing, items}
 
@@ -21,14 +21,14 @@ Differs s c (item t d rest) = s.hi ≡ t.lo → c ≡ d → ⊥
 -- the items after it rise and are disjoint from it, and a touching neighbour has another child.
 pub record IsPlaced (nullable : Bool) (s : Span) (c rest : Level) : Type 0 where
   pub span : IsSpan s
-  pub from : IsAtMost (first_of nullable) s.lo
+  pub from : IsAtMost (first_end nullable) s.lo
   pub rises : BeginsFrom s.hi rest
   pub differs : Differs s c rest
 
 -- a level isn't one whole item without a child, which would stand in place of everything
 abbrev pub IsNotAll : List Bool → Level → Type 0
 IsNotAll [] l = Unit {0}
-IsNotAll (n ∷ ns) l = l ≡ item (whole_of n) end end → ⊥
+IsNotAll (n ∷ ns) l = l ≡ item (whole_span n) end end → ⊥
 
 -- The items of a level and of the levels below it are in their places. The levels end with the last part, and none below an item is all.
 abbrev pub ArePlaced : List Bool → Level → Type 0

@@ -19,25 +19,25 @@ meet_child f (item s c rest) end = Some (item s c rest)
 meet_child f (item s c rest) (item t d more) = unless_end (f (item t d more))
 
 -- a part of a level: a span, and the level below it
-pub record Part : Type 0 where
+pub record Piece : Type 0 where
   pub span : Span
   pub below : Level
 
 -- the part of a span and a level, where there are both
-abbrev pub part_of : Option Span → Option Level → Option Part
-part_of None c = None
-part_of (Some s) None = None
-part_of (Some s) (Some c) = Some (record { span = s; below = c })
+abbrev pub piece_of : Option Span → Option Level → Option Piece
+piece_of None c = None
+piece_of (Some s) None = None
+piece_of (Some s) (Some c) = Some (record { span = s; below = c })
 
 -- a part, where there is one, before a level
-abbrev pub put_part : Option Part → Level → Level
-put_part None rest = rest
-put_part (Some p) rest = weld p.span p.below rest
+abbrev pub put_piece : Option Piece → Level → Level
+put_piece None rest = rest
+put_piece (Some p) rest = weld p.span p.below rest
 
 -- what one item and a level have in common
 abbrev pub across : (Level → Level) → Level → Span → Level → Level
 across f c s end = end
-across f c s (item t d rest) = put_part (part_of (meet_span s t) (meet_child f c d)) (across f c s rest)
+across f c s (item t d rest) = put_piece (piece_of (meet_span s t) (meet_child f c d)) (across f c s rest)
 
 -- what two levels have in common, item by item of the first
 abbrev pub both : Level → Level → Level

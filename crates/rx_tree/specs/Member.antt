@@ -2,14 +2,14 @@
 use Rattle.std.specs.Prelude.{◌≡◌, ◌&&◌, ◌||◌, Bool, true, false, List, [], ◌∷◌}
 use Rattle.rx_value.specs.declared.order.End.{End}
 use Rattle.rx_value.specs.declared.order.End.TheVariants.{Last}
-use Rattle.rx_value.specs.Spans.{IsAtMost, IsBelow, is_inside}
-use Rattle.rx_tree.specs.Tree.{Level, Tree, is_end, first_of}
+use Rattle.rx_value.specs.Spans.{IsAtMost, IsBelow, is_inside, first_end}
+use Rattle.rx_tree.specs.Tree.{Level, Tree, is_end}
 use Rattle.rx_tree.specs.Tree.Level.{end, item}
 use Rattle.rx_tree.specs.Tree.Tree.{everything, nothing, items}
 
 -- a position of a part: a cut that isn't below the first one
 pub record IsPosition (nullable : Bool) (p : End) : Type 0 where
-  pub from : IsAtMost (first_of nullable) p
+  pub from : IsAtMost (first_end nullable) p
   pub cut : IsBelow p Last
 
 -- one position of each part

@@ -2,8 +2,8 @@
 use Rattle.std.specs.Prelude.{◌||◌, ℕ, zero, suc, Bool, false, cond, List, [], ◌∷◌}
 use Rattle.rx_value.specs.declared.order.End.{End}
 use Rattle.rx_value.specs.declared.order.Span.{Span}
-use Rattle.rx_value.specs.Spans.{IsAtMost, IsBelow, IsSpan, is_inside}
-use Rattle.rx_tree.specs.Tree.{Level, Tree, first_of, whole_of, is_whole}
+use Rattle.rx_value.specs.Spans.{IsAtMost, IsBelow, IsSpan, is_inside, first_end, whole_span, is_whole_span}
+use Rattle.rx_tree.specs.Tree.{Level, Tree}
 use Rattle.rx_tree.specs.Tree.Level.{end, item}
 use Rattle.rx_tree.specs.Tree.Tree.{everything, nothing, items}
 
@@ -15,7 +15,7 @@ AreApart e (s ∷ rest) = IsBelow e s.lo × IsSpan s × AreApart s.hi rest
 -- spans of a part that rise and don't touch, none below its first position
 abbrev pub AreSpans : Bool → List Span → Type 0
 AreSpans nullable [] = Unit {0}
-AreSpans nullable (s ∷ rest) = IsAtMost (first_of nullable) s.lo × IsSpan s × AreApart s.hi rest
+AreSpans nullable (s ∷ rest) = IsAtMost (first_end nullable) s.lo × IsSpan s × AreApart s.hi rest
 
 -- such spans of the part k, which is one of the parts
 abbrev pub AreSpansAt : List Bool → ℕ → List Span → Type 0
@@ -36,7 +36,7 @@ is_inside_at (suc k) spans (p ∷ ps) = is_inside_at k spans ps
 
 -- the spans are one that is whole
 abbrev pub is_whole_list : Bool → List Span → Bool
-is_whole_list nullable (s ∷ []) = is_whole nullable s
+is_whole_list nullable (s ∷ []) = is_whole_span nullable s
 is_whole_list nullable _ = false
 
 -- the spans are the whole part k as one
@@ -54,7 +54,7 @@ items_of (s ∷ rest) = item s end (items_of rest)
 abbrev pub items_at : List Bool → ℕ → List Span → Level
 items_at [] k spans = end
 items_at (n ∷ ns) zero spans = items_of spans
-items_at (n ∷ ns) (suc k) spans = item (whole_of n) (items_at ns k spans) end
+items_at (n ∷ ns) (suc k) spans = item (whole_span n) (items_at ns k spans) end
 
 -- The tree of the tuples whose position at part k is in one of the spans: nothing for no span, everything for the whole part.
 abbrev pub point_tree : List Bool → ℕ → List Span → Tree

@@ -1,10 +1,7 @@
 -- Trees of intervals as plain data, and their size.
-use Rattle.std.specs.Prelude.{◌&&◌, ◌||◌, ℕ, zero, suc, ◌+◌, Bool, true, false, not, List, [], ◌∷◌}
-use Rattle.rx_value.specs.declared.values.Value.TheVariants.{Null}
-use Rattle.rx_value.specs.declared.order.End.{End}
-use Rattle.rx_value.specs.declared.order.End.TheVariants.{Last}
+use Rattle.std.specs.Prelude.{◌||◌, ℕ, zero, suc, ◌+◌, Bool, true, false, not, List, [], ◌∷◌}
 use Rattle.rx_value.specs.declared.order.Span.{Span}
-use Rattle.rx_value.specs.Order.{is_at_most, below, above}
+use Rattle.rx_value.specs.Spans.{is_whole_span}
 
 -- The items of a level in order. An item has a span of its part, the level below it, of the next part, and the items after it.
 -- The empty level below an item means that the item has no child, so that all keys go on.
@@ -34,24 +31,11 @@ size everything = 0
 size nothing = 0
 size (items l) = level_size l
 
--- the first position of a part: the cut below NULL where the part may be NULL, else the cut above it
-abbrev pub first_of : Bool → End
-first_of true = below Null
-first_of false = above Null
-
--- the whole of a part as one span
-abbrev pub whole_of : Bool → Span
-whole_of nullable = record { lo = first_of nullable; hi = Last }
-
--- a span holds all positions of its part
-abbrev pub is_whole : Bool → Span → Bool
-is_whole nullable s = is_at_most s.lo (first_of nullable) && is_at_most Last s.hi
-
 -- A level of these parts constrains the part k of them where some item of that part isn't whole.
 abbrev pub level_constrains : List Bool → Level → ℕ → Bool
 level_constrains parts end k = false
 level_constrains [] (item s c rest) k = false
-level_constrains (n ∷ ns) (item s c rest) zero = not (is_whole n s) || level_constrains (n ∷ ns) rest zero
+level_constrains (n ∷ ns) (item s c rest) zero = not (is_whole_span n s) || level_constrains (n ∷ ns) rest zero
 level_constrains (n ∷ ns) (item s c rest) (suc k) = level_constrains ns c k || level_constrains (n ∷ ns) rest (suc k)
 
 -- A tree constrains a part where some item of that part isn't whole.

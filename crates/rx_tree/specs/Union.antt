@@ -4,22 +4,22 @@ use Rattle.std.specs.declared.cmp.Ordering.TheVariants.{Greater}
 use Rattle.rx_value.specs.declared.order.End.{End}
 use Rattle.rx_value.specs.declared.order.Span.{Span}
 use Rattle.rx_value.specs.Order.{end_cmp, is_at_most}
-use Rattle.rx_value.specs.Spans.{later, earlier, span_of}
-use Rattle.rx_tree.specs.Tree.{Level, Tree, is_end, is_whole}
+use Rattle.rx_value.specs.Spans.{later, earlier, span_of, is_whole_span}
+use Rattle.rx_tree.specs.Tree.{Level, Tree, is_end}
 use Rattle.rx_tree.specs.Tree.Level.{end, item}
 use Rattle.rx_tree.specs.Tree.Tree.{everything, nothing, items}
 use Rattle.rx_tree.specs.Weld.{weld}
-use Rattle.rx_tree.specs.Meet.{part_of, put_part}
+use Rattle.rx_tree.specs.Meet.{piece_of, put_piece}
 
 -- what lies between two ends, where the first is below the second, over this child and before a level
-abbrev pub between : End → End → Level → Level → Level
-between lo hi c rest = put_part (part_of (span_of lo hi) (Some c)) rest
+abbrev pub piece_between : End → End → Level → Level → Level
+piece_between lo hi c rest = put_piece (piece_of (span_of lo hi) (Some c)) rest
 
 -- The parts of two spans that overlap: what the one or the other has alone before both begin, what both have, over what the function
 -- gives of their children, what the second has alone behind the first, and the rest.
 abbrev pub overlaid : (Level → Level → Level) → Span → Level → Span → Level → Level → Level
 overlaid f s c t d rest =
-    between s.lo t.lo c (between t.lo s.lo d (between (later s.lo t.lo) (earlier s.hi t.hi) (f c d) (between s.hi t.hi d rest)))
+    piece_between s.lo t.lo c (piece_between t.lo s.lo d (piece_between (later s.lo t.lo) (earlier s.hi t.hi) (f c d) (piece_between s.hi t.hi d rest)))
 
 -- An item laid over a level: behind an item that ends before it, before one that begins after it, else in parts, and what is left of it
 -- is laid over the items that follow. The function gives what goes on below either of two children.
@@ -38,7 +38,7 @@ lay_all f (item s c rest) b = lay f s c (lay_all f rest b)
 -- a level is one whole item without a child
 abbrev pub is_all : Bool → Level → Bool
 is_all n end = false
-is_all n (item s c rest) = is_whole n s && (is_end c && is_end rest)
+is_all n (item s c rest) = is_whole_span n s && (is_end c && is_end rest)
 
 -- what goes on below either of two children of these parts; the empty level means all
 abbrev pub either_child : List Bool → Level → Level → Level

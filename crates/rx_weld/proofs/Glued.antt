@@ -11,9 +11,9 @@ use Rattle.rx_level.specs.Store.{leads}
 use Rattle.rx_level.specs.Step.{Owns, Step, level_of, between}
 use Rattle.rx_level.proofs.Steps.{join_assoc}
 use Rattle.rx_level.proofs.Turning.{kept_root}
-use Rattle.rx_weld.specs.Apart.{AreApart}
+use Rattle.rx_weld.specs.Seamless.{IsSeamless}
 use Rattle.rx_weld.specs.Seam.{IsSeam}
-use Rattle.rx_weld.proofs.Apart.{glue_last, glue_nothing}
+use Rattle.rx_weld.proofs.Seamless.{glue_last, glue_nothing}
 use Rattle.rx_weld.proofs.Seams.{glue_joined, seam_parted}
 
 -- the last item behind the root, once the items before it are joined
@@ -43,7 +43,7 @@ last_level a b d e left right before whole key next top last is owns one two thr
 pub glued : (a b d e : Slab Node) (left right before rest whole : Option ℕ) (front back : ℕ) (last first : Item)
     → left ≡ Some front → right ≡ Some back
     → Owns a (left ∷ right ∷ [])
-    → AreApart (level_of a left)
+    → IsSeamless (level_of a left)
     → Step a b (Some front ∷ []) (before ∷ last.child ∷ [])
     → Step b d (Some back ∷ []) (first.child ∷ rest ∷ [])
     → level_of a (Some front) ≡ join_level (level_of b before) (item last.span (level_of b last.child) end)
@@ -61,7 +61,7 @@ glued a b d e left right before rest whole front back last first is_left is_righ
     level
     ∙ (rw (init.level, child.level) refl)
     ∙ ap (λ x. join_level (level_of b before) (weld last.span (level_of b last.child) x)) (sym right_level)
-    ∙ sym (glue_last (level_of b before) last.span (level_of b last.child) (level_of a right) (subst AreApart left_level apart))
+    ∙ sym (glue_last (level_of b before) last.span (level_of b last.child) (level_of a right) (subst IsSeamless left_level apart))
     ∙ ap (λ x. glue x (level_of a right)) (sym left_level)
 
 -- the items at which two levels meet, once they are taken off
@@ -85,15 +85,15 @@ seam a b d left right before rest front back last first is_left is_right owns me
     (both.0, child.level ∙ both.1)
 
 -- a level before one without items
-pub glued_alone : (s : Slab Node) (left right : Option ℕ) (front : ℕ) → left ≡ Some front → AreApart (level_of s left) → right ≡ None → level_of s (Some front) ≡ glue (level_of s left) (level_of s right)
+pub glued_alone : (s : Slab Node) (left right : Option ℕ) (front : ℕ) → left ≡ Some front → IsSeamless (level_of s left) → right ≡ None → level_of s (Some front) ≡ glue (level_of s left) (level_of s right)
 glued_alone s left right front same apart is = ap (level_of s) (sym same) ∙ sym (glue_nothing (level_of s left) apart) ∙ ap (λ r. glue (level_of s left) (level_of s r)) (sym is)
 
 -- levels that have no seam
-pub glued_joined : (s : Slab Node) (left right : Option ℕ) (front back : ℕ) (whole : Level) → left ≡ Some front → right ≡ Some back → AreApart (level_of s left) → (IsSeam (level_of s (Some front)) (level_of s (Some back)) → ⊥)
+pub glued_joined : (s : Slab Node) (left right : Option ℕ) (front back : ℕ) (whole : Level) → left ≡ Some front → right ≡ Some back → IsSeamless (level_of s left) → (IsSeam (level_of s (Some front)) (level_of s (Some back)) → ⊥)
     → whole ≡ join_level (level_of s (Some front)) (level_of s (Some back)) → whole ≡ glue (level_of s left) (level_of s right)
 glued_joined s left right front back whole is_left is_right apart none level =
     let first : level_of s left ≡ level_of s (Some front) = ap (level_of s) is_left in
     let second : level_of s right ≡ level_of s (Some back) = ap (level_of s) is_right in
     level
-    ∙ sym (glue_joined (level_of s (Some front)) (level_of s (Some back)) (subst AreApart first apart) none)
+    ∙ sym (glue_joined (level_of s (Some front)) (level_of s (Some back)) (subst IsSeamless first apart) none)
     ∙ (rw (first, second) refl)

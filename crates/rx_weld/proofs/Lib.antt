@@ -1,4 +1,4 @@
-pub mod Apart
+pub mod Seamless
 pub mod Seams
 pub mod Welded
 pub mod Glued

@@ -7,11 +7,11 @@ use Rattle.rx_tree.specs.Join.{join_level, length_of}
 use Rattle.rx_tree.specs.Weld.{weld, glue}
 use Rattle.rx_tree.proofs.Welding.{weld_apart}
 use Rattle.rx_level.specs.Entries.{Entry, entry_at}
-use Rattle.rx_weld.specs.Apart.{AreApart}
+use Rattle.rx_weld.specs.Seamless.{IsSeamless}
 use Rattle.rx_weld.specs.Seam.{IsSeam}
 
 -- levels whose items can't be one where they meet are joined
-pub glue_joined : (a b : Level) → AreApart a → (IsSeam a b → ⊥) → glue a b ≡ join_level a b
+pub glue_joined : (a b : Level) → IsSeamless a → (IsSeam a b → ⊥) → glue a b ≡ join_level a b
 glue_joined end b apart none = refl
 glue_joined (item s c end) end apart none = refl
 glue_joined (item s c end) (item t d more) apart none = weld_apart s c (item t d more) (λ touch same. none (touch, same))

@@ -13,7 +13,7 @@ use Rattle.rx_level.specs.Step.{Owns, Step, Lent, level_of, between}
 use Rattle.rx_level.proofs.Steps.{held_there}
 use Rattle.rx_level.proofs.Lending.{lent_held}
 use Rattle.rx_level.proofs.Turning.{kept_root}
-use Rattle.rx_weld.proofs.Apart.{weld_one}
+use Rattle.rx_weld.proofs.Seamless.{weld_one}
 
 -- a held link is lent
 pub owned_lent : (s : Slab Node) (all : List (Option ℕ)) (r : Option ℕ) → Owns s all → ((m : ℕ) → leads m r ≤ owed m all) → Lent s [] r

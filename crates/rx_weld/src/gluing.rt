@@ -6,17 +6,17 @@ ghost use Rattle.rx_tree.specs.Tree.Level.{end, item as one_item};
 ghost use Rattle.rx_tree.specs.Join.{join_level};
 ghost use Rattle.rx_tree.specs.Weld.{glue};
 ghost use Rattle.rx_level.specs.Step.{Owns, Step, Lent, level_of};
-ghost use Rattle.rx_weld.specs.Apart.{AreApart};
+ghost use Rattle.rx_weld.specs.Seamless.{IsSeamless};
 ghost use Rattle.rx_weld.specs.Seam.{IsSeam};
 
 use crate::welding::{is_one, join_as_one};
-use rx_level::{Item, Levels, append, find, join, take_first};
+use rx_level::{Item, Levels, Link, Owned, append, find, join, take_first};
 use std::alloc::AllocError;
 
 /// The last item of a level, and the items before it.
 #[derive(Drop)]
 struct Last {
-    before: Option<usize>,
+    before: Owned,
     item: Item,
 }
 
@@ -55,7 +55,7 @@ fn take_last(levels: &mut Levels, key: usize) -> Result<Last, AllocError>
 
 /// Whether the last item of one lent level ends where the first of another begins, and has the same child.
 /// Takes no memory.
-pub fn is_seam(levels: &Levels, left: Option<usize>, right: Option<usize>) -> bool
+pub fn is_seam(levels: &Levels, left: Link, right: Link) -> bool
     requires left { Lent levels.now [] left }
     requires right { Lent levels.now [] right }
     ensures { IsTrue result ↔ IsSeam (level_of levels.now left) (level_of levels.now right) }
@@ -75,13 +75,9 @@ pub fn is_seam(levels: &Levels, left: Option<usize>, right: Option<usize>) -> bo
 
 /// The items of one level before those of another, as one item where two touch and have the same child.
 /// Both handles are spent in every case. The error is want of memory.
-pub fn glue(
-    levels: &mut Levels,
-    left: Option<usize>,
-    right: Option<usize>,
-) -> Result<Option<usize>, AllocError>
+pub fn glue(levels: &mut Levels, left: Owned, right: Owned) -> Result<Owned, AllocError>
     requires owns { Owns levels.old (left ∷ right ∷ []) }
-    requires apart { AreApart (level_of levels.old left) }
+    requires apart { IsSeamless (level_of levels.old left) }
     ensures ok { IfOk result (λ r. Step levels.old levels.new (left ∷ right ∷ []) (r ∷ [])) }
     ensures level { IfOk result (λ r. level_of levels.new r ≡ glue (level_of levels.old left) (level_of levels.old right)) }
     ensures err { OnErr result (Step levels.old levels.new (left ∷ right ∷ []) []) }

@@ -7,7 +7,7 @@ ghost use Rattle.rx_tree.specs.Join.{join_level};
 ghost use Rattle.rx_tree.specs.Weld.{span_over, weld};
 ghost use Rattle.rx_level.specs.Step.{Owns, Step, Lent, level_of};
 
-use rx_level::{Found, Item, Levels, join, same_levels, take_first};
+use rx_level::{Found, Item, Levels, Owned, join, same_levels, take_first};
 use rx_value::{Span, touches};
 use std::alloc::AllocError;
 
@@ -32,11 +32,11 @@ fn span_over(a: Span, b: Span) -> Span
 /// every case. The error is want of memory.
 pub fn join_as_one(
     levels: &mut Levels,
-    left: Option<usize>,
+    left: Owned,
     a: Item,
     b: Item,
-    right: Option<usize>,
-) -> Result<Option<usize>, AllocError>
+    right: Owned,
+) -> Result<Owned, AllocError>
     requires owns { Owns levels.old (left ∷ a.child ∷ b.child ∷ right ∷ []) }
     requires touch { a.span.hi ≡ b.span.lo }
     requires same { level_of levels.old a.child ≡ level_of levels.old b.child }
@@ -52,12 +52,7 @@ pub fn join_as_one(
 
 // Two items before a level, as one where they touch and have the same child. All handles are spent in
 // every case. The error is want of memory.
-fn meld(
-    levels: &mut Levels,
-    a: Item,
-    b: Item,
-    right: Option<usize>,
-) -> Result<Option<usize>, AllocError>
+fn meld(levels: &mut Levels, a: Item, b: Item, right: Owned) -> Result<Owned, AllocError>
     requires { Owns levels.old (a.child ∷ b.child ∷ right ∷ []) }
     ensures ok { IfOk result (λ r. Step levels.old levels.new (a.child ∷ b.child ∷ right ∷ []) (r ∷ [])) }
     ensures level { IfOk result (λ r. level_of levels.new r ≡ weld a.span (level_of levels.old a.child) (one_item b.span (level_of levels.old b.child) (level_of levels.old right))) }
@@ -89,11 +84,7 @@ fn meld(
 
 /// An item before a level, as one with the first item where the two touch and have the same child. The
 /// handles are spent in every case. The error is want of memory.
-pub fn weld_front(
-    levels: &mut Levels,
-    item: Item,
-    root: Option<usize>,
-) -> Result<Option<usize>, AllocError>
+pub fn weld_front(levels: &mut Levels, item: Item, root: Owned) -> Result<Owned, AllocError>
     requires { Owns levels.old (item.child ∷ root ∷ []) }
     ensures ok { IfOk result (λ r. Step levels.old levels.new (item.child ∷ root ∷ []) (r ∷ [])) }
     ensures level { IfOk result (λ r. level_of levels.new r ≡ weld item.span (level_of levels.old item.child) (level_of levels.old root)) }

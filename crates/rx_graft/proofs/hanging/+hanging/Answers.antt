@@ -1,9 +1,9 @@
 use Rattle.std.proofs.Common.{arith}
-use Rattle.rx_graft.proofs.Listed.{lacks_from, lacks_each}
+use Rattle.rx_graft.proofs.ListedLinks.{lacks_from, lacks_each}
 use Rattle.rx_graft.proofs.Adding.{freed_one, freed_two, spent_three}
 use Rattle.rx_graft.proofs.Ready.{link_lent}
 use Rattle.rx_graft.proofs.Wholes.{three, whole}
-use Rattle.rx_graft.proofs.Parts.{opened, parts_smaller, later, sides_near, known_lent, known_again, ends, below_child}
+use Rattle.rx_graft.proofs.MadeParts.{opened, parts_smaller, later, sides_near, known_lent, known_again, ends, below_child}
 use Rattle.rx_graft.proofs.hanging.+hanging.Goals as goal
 
 pub hang-hold-requires : goal.hang-hold-requires

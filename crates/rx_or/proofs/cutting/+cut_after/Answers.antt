@@ -1,4 +1,4 @@
-use Rattle.std.proofs.Common.{◌≤◌, ℕ, ◌+◌, ◌-◌, ◌*◌, [], ◌∷◌, arith, refl, sym, subst}
+use Rattle.std.proofs.Common.{◌≤◌, ℕ, ◌+◌, ◌-◌, ◌*◌, [], ◌∷◌, arith, sym, subst}
 use Rattle.slab.specs.Slab.{slab_len}
 use Rattle.rx_level.specs.Tree.{IsHeight}
 use Rattle.rx_level.specs.Step.{tall_of}
@@ -60,13 +60,13 @@ returns-in_ok-rest-in-Ok-clause-height t c =
 pub returns-in_ok-rest-in-Ok-clause-level : goal.returns-in_ok-rest-in-Ok-clause-level
 returns-in_ok-rest-in-Ok-clause-level t c =
     let o = opened c.args.levels.now c.open.new.self c.args.root c.in_ok-top.top.left c.in_ok-top.top.right c.in_ok-top.top.item c.in-Some.key c.in-Some.is c.requires.owns c.in_ok-top.ensures.ok c.in_ok-top.ensures.level c.in_ok-top.ensures.height c.in_ok-top.ensures.near c.requires.order in
-    apart_level_after c.args.levels.now c.open.new.self c.cut_after.new.levels c.join.new.levels c.args.root c.in_ok-top.top.left c.in_ok-top.top.right c.in-Ok.cut.rest c.in_ok-rest-in-Ok.rest c.in_ok-top.top.item c.args.edge c.in-Ok.cut.edge (c.in-Ok.cut.rest ∷ []) o c.in-Ok.ensures.ok (c.in-Apart.ensures.apart refl) c.in-Ok.ensures.level c.in_ok-rest-in-Ok.ensures.level
+    apart_level_after c.args.levels.now c.open.new.self c.cut_after.new.levels c.join.new.levels c.args.root c.in_ok-top.top.left c.in_ok-top.top.right c.in-Ok.cut.rest c.in_ok-rest-in-Ok.rest c.in_ok-top.top.item c.args.edge c.in-Ok.cut.edge (c.in-Ok.cut.rest ∷ []) o c.in-Ok.ensures.ok c.in-Apart.ensures c.in-Ok.ensures.level c.in_ok-rest-in-Ok.ensures.level
 
 pub returns-in_ok-cut-in-Beyond-clause-level : goal.returns-in_ok-cut-in-Beyond-clause-level
 returns-in_ok-cut-in-Beyond-clause-level t c =
     let o = opened c.args.levels.now c.open.new.self c.args.root c.in_ok-top.top.left c.in_ok-top.top.right c.in_ok-top.top.item c.in-Some.key c.in-Some.is c.requires.owns c.in_ok-top.ensures.ok c.in_ok-top.ensures.level c.in_ok-top.ensures.height c.in_ok-top.ensures.near c.requires.order in
     let k = stays_twice c.args.levels.now c.open.new.self c.free-in-Beyond.new.self c.free-in-Beyond-2.new.self c.args.root c.in_ok-top.top.left c.in_ok-top.top.right c.in_ok-top.top.item c.in_ok-top.top.item.child c.in_ok-top.top.left c.in_ok-top.top.right o c.free-in-Beyond.ensures.step c.free-in-Beyond-2.ensures.step (λ m. omega arith) in
-    beyond_level_after c.args.levels.now c.open.new.self c.free-in-Beyond-2.new.self c.cut_after-in-Beyond.new.levels c.args.root c.in_ok-top.top.left c.in_ok-top.top.right c.in_ok-cut-in-Beyond.cut.rest c.in_ok-top.top.item c.args.edge c.in_ok-cut-in-Beyond.cut.edge o k (c.in-Beyond.ensures.beyond refl) c.in_ok-cut-in-Beyond.ensures.level
+    beyond_level_after c.args.levels.now c.open.new.self c.free-in-Beyond-2.new.self c.cut_after-in-Beyond.new.levels c.args.root c.in_ok-top.top.left c.in_ok-top.top.right c.in_ok-cut-in-Beyond.cut.rest c.in_ok-top.top.item c.args.edge c.in_ok-cut-in-Beyond.cut.edge o k c.in-Beyond.ensures c.in_ok-cut-in-Beyond.ensures.level
 
 pub returns-in_ok-cut-in-Beyond-clause-height : goal.returns-in_ok-cut-in-Beyond-clause-height
 returns-in_ok-cut-in-Beyond-clause-height t c =
@@ -96,9 +96,9 @@ pub returns-in-Joined-clause-level : goal.returns-in-Joined-clause-level
 returns-in-Joined-clause-level t c =
     let o = opened c.args.levels.now c.open.new.self c.args.root c.in_ok-top.top.left c.in_ok-top.top.right c.in_ok-top.top.item c.in-Some.key c.in-Some.is c.requires.owns c.in_ok-top.ensures.ok c.in_ok-top.ensures.level c.in_ok-top.ensures.height c.in_ok-top.ensures.near c.requires.order in
     let k = stays_twice c.args.levels.now c.open.new.self c.free-in-Joined.new.self c.free-in-Joined-2.new.self c.args.root c.in_ok-top.top.left c.in_ok-top.top.right c.in_ok-top.top.item c.in_ok-top.top.item.child c.in_ok-top.top.left c.in_ok-top.top.right o c.free-in-Joined.ensures.step c.free-in-Joined-2.ensures.step (λ m. omega arith) in
-    joined_level_after c.args.levels.now c.open.new.self c.free-in-Joined-2.new.self c.args.root c.in_ok-top.top.left c.in_ok-top.top.right c.in_ok-top.top.item c.args.edge o k (c.in-Joined.ensures.joined refl)
+    joined_level_after c.args.levels.now c.open.new.self c.free-in-Joined-2.new.self c.args.root c.in_ok-top.top.left c.in_ok-top.top.right c.in_ok-top.top.item c.args.edge o k c.in-Joined.ensures
 
 pub returns-in_ok-cut-in-Across-clause-level : goal.returns-in_ok-cut-in-Across-clause-level
 returns-in_ok-cut-in-Across-clause-level t c =
     let o = opened c.args.levels.now c.open.new.self c.args.root c.in_ok-top.top.left c.in_ok-top.top.right c.in_ok-top.top.item c.in-Some.key c.in-Some.is c.requires.owns c.in_ok-top.ensures.ok c.in_ok-top.ensures.level c.in_ok-top.ensures.height c.in_ok-top.ensures.near c.requires.order in
-    across_level_after c.args.levels.now c.open.new.self c.free-in-Across.new.self c.shorten_after.new.levels c.args.root c.in_ok-top.top.left c.in_ok-top.top.right c.in_ok-cut-in-Across.cut.rest c.in_ok-top.top.item c.args.edge c.in_ok-cut-in-Across.cut.edge o c.free-in-Across.ensures.step (c.in-Across.ensures.across refl) c.in_ok-cut-in-Across.ensures.level c.in_ok-cut-in-Across.ensures.edge
+    across_level_after c.args.levels.now c.open.new.self c.free-in-Across.new.self c.shorten_after.new.levels c.args.root c.in_ok-top.top.left c.in_ok-top.top.right c.in_ok-cut-in-Across.cut.rest c.in_ok-top.top.item c.args.edge c.in_ok-cut-in-Across.cut.edge o c.free-in-Across.ensures.step c.in-Across.ensures c.in_ok-cut-in-Across.ensures.level c.in_ok-cut-in-Across.ensures.edge

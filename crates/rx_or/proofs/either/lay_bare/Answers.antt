@@ -12,17 +12,17 @@ cover-requires-clause-order c =
     let kept = beside_bare c.args.levels.now c.open.new.self c.free-2.new.self c.free-3.new.self c.free-4.new.self c.args.g c.in-Ok.top.left c.in-Ok.top.right c.args.key c.in-Ok.top.item c.requires.owns c.in-Ok.ensures.ok c.free-2.ensures.step c.free-3.ensures.step c.free-4.ensures.step in
     subst AreInOrder (sym kept) c.requires.order
 
-pub returns-in_err-whole-clause-few : goal.returns-in_err-whole-clause-few
-returns-in_err-whole-clause-few c =
+pub returns-in_err-whole-clause-by_bits : goal.returns-in_err-whole-clause-by_bits
+returns-in_err-whole-clause-by_bits c =
     let kept = beside_bare c.args.levels.now c.open.new.self c.free-2.new.self c.free-3.new.self c.free-4.new.self c.args.g c.in-Ok.top.left c.in-Ok.top.right c.args.key c.in-Ok.top.item c.requires.owns c.in-Ok.ensures.ok c.free-2.ensures.step c.free-3.ensures.step c.free-4.ensures.step in
     λ bits few.
-    omega (arith, c.in_err-whole.ensures.few bits (omega (arith, ap length_of kept, few)), c.in-Ok.ensures.live, c.free-2.ensures.live, c.free-3.ensures.live, c.free-4.ensures.live)
+    omega (arith, c.in_err-whole.ensures.by_bits bits (omega (arith, ap length_of kept, few)), c.in-Ok.ensures.live, c.free-2.ensures.live, c.free-3.ensures.live, c.free-4.ensures.live)
 
-pub returns-clause-few : goal.returns-clause-few
-returns-clause-few c =
+pub returns-clause-by_bits : goal.returns-clause-by_bits
+returns-clause-by_bits c =
     let kept = beside_bare c.args.levels.now c.open.new.self c.free-2.new.self c.free-3.new.self c.free-4.new.self c.args.g c.in-Ok.top.left c.in-Ok.top.right c.args.key c.in-Ok.top.item c.requires.owns c.in-Ok.ensures.ok c.free-2.ensures.step c.free-3.ensures.step c.free-4.ensures.step in
     λ bits few.
-    omega (arith, c.in_ok-whole.ensures.few bits (omega (arith, ap length_of kept, few)), c.in-Ok.ensures.live, c.free-2.ensures.live, c.free-3.ensures.live, c.free-4.ensures.live)
+    omega (arith, c.in_ok-whole.ensures.by_bits bits (omega (arith, ap length_of kept, few)), c.in-Ok.ensures.live, c.free-2.ensures.live, c.free-3.ensures.live, c.free-4.ensures.live)
 
 pub returns-clause-level : goal.returns-clause-level
 returns-clause-level c =

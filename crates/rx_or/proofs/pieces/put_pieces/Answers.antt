@@ -1,4 +1,4 @@
-use Rattle.rx_or.proofs.Welded.{three_parts}
+use Rattle.rx_or.proofs.Stretched.{three_parts}
 use Rattle.rx_or.proofs.pieces.put_pieces.Goals as goal
 
 pub returns-clause-level : goal.returns-clause-level

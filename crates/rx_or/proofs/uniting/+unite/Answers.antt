@@ -87,38 +87,38 @@ unite_below-returns-clause-level t c =
     c.in_ok-whole.ensures.level in
     some_below (get_or below 0 false) (level_of c.lay_items.new.levels c.in_ok-whole.whole) (union_below c.args.parts.now (level_of c.args.levels.now c.args.c) (level_of c.args.levels.now c.args.d)) c.is_all.result c.is_all.ensures c.if-is_all.false both
 
-pub lay_over-lay_over-requires : goal.lay_over-lay_over-requires
-lay_over-lay_over-requires t c =
+pub lay_from_top-lay_from_top-requires : goal.lay_from_top-lay_from_top-requires
+lay_from_top-lay_from_top-requires t c =
     let x = taken_aside c.args.levels.now c.open.new.self c.args.parts.now c.args.item c.in-Ok.top.item c.args.root c.in-Ok.top.left c.in-Ok.top.right c.in-Some.key c.in-Some.is c.requires.owns c.in-Ok.ensures.ok c.in-Ok.ensures.level c.requires.alone c.requires.level in
     (omega (arith, x.long, c.decreases), (record { sound = x.sound; owned = λ m. omega (arith, x.held m) }, (x.alone, aside_right c.args.levels.now c.open.new.self c.args.parts.now c.args.item c.in-Ok.top.item c.args.root c.in-Ok.top.left c.in-Ok.top.right x)))
 
-pub lay_over-lay_over-requires-in-Left : goal.lay_over-lay_over-requires-in-Left
-lay_over-lay_over-requires-in-Left t c =
+pub lay_from_top-lay_from_top-requires-in-Left : goal.lay_from_top-lay_from_top-requires-in-Left
+lay_from_top-lay_from_top-requires-in-Left t c =
     let x = taken_aside c.args.levels.now c.open.new.self c.args.parts.now c.args.item c.in-Ok.top.item c.args.root c.in-Ok.top.left c.in-Ok.top.right c.in-Some.key c.in-Some.is c.requires.owns c.in-Ok.ensures.ok c.in-Ok.ensures.level c.requires.alone c.requires.level in
     (omega (arith, x.long, c.decreases), (record { sound = x.sound; owned = λ m. omega (arith, x.held m) }, (x.alone, aside_left c.args.levels.now c.open.new.self c.args.parts.now c.args.item c.in-Ok.top.item c.args.root c.in-Ok.top.left c.in-Ok.top.right x)))
 
-pub lay_over-returns-in_ok-whole-in-Right-clause-level : goal.lay_over-returns-in_ok-whole-in-Right-clause-level
-lay_over-returns-in_ok-whole-in-Right-clause-level t c =
+pub lay_from_top-returns-in_ok-whole-in-Right-clause-level : goal.lay_from_top-returns-in_ok-whole-in-Right-clause-level
+lay_from_top-returns-in_ok-whole-in-Right-clause-level t c =
     let x = taken_aside c.args.levels.now c.open.new.self c.args.parts.now c.args.item c.in-Ok.top.item c.args.root c.in-Ok.top.left c.in-Ok.top.right c.in-Some.key c.in-Some.is c.requires.owns c.in-Ok.ensures.ok c.in-Ok.ensures.level c.requires.alone c.requires.level in
-    right_level c.args.levels.now c.open.new.self c.lay_over.new.levels c.join-in-Right.new.levels c.args.parts.now c.args.item c.in-Ok.top.item c.args.root c.in-Ok.top.left c.in-Ok.top.right c.in-Ok-lay_over.back c.in_ok-whole-in-Right.whole x c.in-Ok-lay_over.ensures.ok (c.in-Right.ensures.right refl) c.in-Ok-lay_over.ensures.level c.in_ok-whole-in-Right.ensures.level
+    right_level c.args.levels.now c.open.new.self c.lay_from_top.new.levels c.join-in-Right.new.levels c.args.parts.now c.args.item c.in-Ok.top.item c.args.root c.in-Ok.top.left c.in-Ok.top.right c.in-Ok-lay_from_top.back c.in_ok-whole-in-Right.whole x c.in-Ok-lay_from_top.ensures.ok (c.in-Right.ensures.right refl) c.in-Ok-lay_from_top.ensures.level c.in_ok-whole-in-Right.ensures.level
 
-pub lay_over-returns-in_ok-whole-in-Left-clause-level : goal.lay_over-returns-in_ok-whole-in-Left-clause-level
-lay_over-returns-in_ok-whole-in-Left-clause-level t c =
+pub lay_from_top-returns-in_ok-whole-in-Left-clause-level : goal.lay_from_top-returns-in_ok-whole-in-Left-clause-level
+lay_from_top-returns-in_ok-whole-in-Left-clause-level t c =
     let x = taken_aside c.args.levels.now c.open.new.self c.args.parts.now c.args.item c.in-Ok.top.item c.args.root c.in-Ok.top.left c.in-Ok.top.right c.in-Some.key c.in-Some.is c.requires.owns c.in-Ok.ensures.ok c.in-Ok.ensures.level c.requires.alone c.requires.level in
-    left_level c.args.levels.now c.open.new.self c.lay_over-in-Left.new.levels c.join-in-Left.new.levels c.args.parts.now c.args.item c.in-Ok.top.item c.args.root c.in-Ok.top.left c.in-Ok.top.right c.in-Ok-lay_over-2.front c.in_ok-whole-in-Left.whole x c.in-Ok-lay_over-2.ensures.ok (c.in-Left.ensures.left refl) c.in-Ok-lay_over-2.ensures.level c.in_ok-whole-in-Left.ensures.level
+    left_level c.args.levels.now c.open.new.self c.lay_from_top-in-Left.new.levels c.join-in-Left.new.levels c.args.parts.now c.args.item c.in-Ok.top.item c.args.root c.in-Ok.top.left c.in-Ok.top.right c.in-Ok-lay_from_top-2.front c.in_ok-whole-in-Left.whole x c.in-Ok-lay_from_top-2.ensures.ok (c.in-Left.ensures.left refl) c.in-Ok-lay_from_top-2.ensures.level c.in_ok-whole-in-Left.ensures.level
 
-pub lay_over-lay_across-requires : goal.lay_over-lay_across-requires
-lay_over-lay_across-requires t c =
+pub lay_from_top-lay_at_top-requires : goal.lay_from_top-lay_at_top-requires
+lay_from_top-lay_at_top-requires t c =
     let x = taken_aside c.args.levels.now c.open.new.self c.args.parts.now c.args.item c.in-Ok.top.item c.args.root c.in-Ok.top.left c.in-Ok.top.right c.in-Some.key c.in-Some.is c.requires.owns c.in-Ok.ensures.ok c.in-Ok.ensures.level c.requires.alone c.requires.level in
     (omega (arith, x.long, c.decreases), (record { sound = x.sound; owned = λ m. omega (arith, x.held m) }, (x.alone, (x.placed, c.in-Neither.ensures.neither refl))))
 
-pub lay_over-returns-in_ok-whole-in-Neither-clause-level : goal.lay_over-returns-in_ok-whole-in-Neither-clause-level
-lay_over-returns-in_ok-whole-in-Neither-clause-level t c =
+pub lay_from_top-returns-in_ok-whole-in-Neither-clause-level : goal.lay_from_top-returns-in_ok-whole-in-Neither-clause-level
+lay_from_top-returns-in_ok-whole-in-Neither-clause-level t c =
     let x = taken_aside c.args.levels.now c.open.new.self c.args.parts.now c.args.item c.in-Ok.top.item c.args.root c.in-Ok.top.left c.in-Ok.top.right c.in-Some.key c.in-Some.is c.requires.owns c.in-Ok.ensures.ok c.in-Ok.ensures.level c.requires.alone c.requires.level in
-    over_level c.args.levels.now c.open.new.self c.lay_across.new.levels c.args.parts.now c.args.item c.in-Ok.top.item c.args.root c.in-Ok.top.left c.in-Ok.top.right c.in_ok-whole-in-Neither.whole x c.in_ok-whole-in-Neither.ensures.level
+    over_level c.args.levels.now c.open.new.self c.lay_at_top.new.levels c.args.parts.now c.args.item c.in-Ok.top.item c.args.root c.in-Ok.top.left c.in-Ok.top.right c.in_ok-whole-in-Neither.whole x c.in_ok-whole-in-Neither.ensures.level
 
-pub lay_across-lay_front-requires : goal.lay_across-lay_front-requires
-lay_across-lay_front-requires t c = (
+pub lay_at_top-lay_before-requires : goal.lay_at_top-lay_before-requires
+lay_at_top-lay_before-requires t c = (
   omega (arith, c.decreases),
   (
     record { sound = c.requires.owns.sound; owned = λ m. omega (arith, c.requires.owns.owned m) },
@@ -126,33 +126,33 @@ lay_across-lay_front-requires t c = (
   ),
 )
 
-pub lay_across-lay_onto-requires : goal.lay_across-lay_onto-requires
-lay_across-lay_onto-requires t c =
-    let x = fronted c.args.levels.now c.lay_front.new.levels c.args.parts.now c.args.item c.args.top.item c.args.top.left c.args.top.right c.in-Ok.front c.requires.owns c.in-Ok.ensures.ok c.requires.alone c.requires.level c.in-Ok.ensures.level in
+pub lay_at_top-lay_on_and_behind-requires : goal.lay_at_top-lay_on_and_behind-requires
+lay_at_top-lay_on_and_behind-requires t c =
+    let x = fronted c.args.levels.now c.lay_before.new.levels c.args.parts.now c.args.item c.args.top.item c.args.top.left c.args.top.right c.in-Ok.front c.requires.owns c.in-Ok.ensures.ok c.requires.alone c.requires.level c.in-Ok.ensures.level in
     (omega (arith, ap length_of x.behind, c.decreases), (record { sound = x.sound; owned = λ m. omega (arith, x.held m) }, (x.alone, x.placed)))
 
-pub lay_across-glue-requires-clause-apart : goal.lay_across-glue-requires-clause-apart
-lay_across-glue-requires-clause-apart t c =
-    let x = fronted c.args.levels.now c.lay_front.new.levels c.args.parts.now c.args.item c.args.top.item c.args.top.left c.args.top.right c.in-Ok.front c.requires.owns c.in-Ok.ensures.ok c.requires.alone c.requires.level c.in-Ok.ensures.level in
-    front_apart c.args.levels.now c.lay_front.new.levels c.lay_onto.new.levels c.args.parts.now c.args.item c.args.top.item c.args.top.right c.in-Ok.front _ x c.in-Ok-lay_onto.ensures.ok
+pub lay_at_top-glue-requires-clause-apart : goal.lay_at_top-glue-requires-clause-apart
+lay_at_top-glue-requires-clause-apart t c =
+    let x = fronted c.args.levels.now c.lay_before.new.levels c.args.parts.now c.args.item c.args.top.item c.args.top.left c.args.top.right c.in-Ok.front c.requires.owns c.in-Ok.ensures.ok c.requires.alone c.requires.level c.in-Ok.ensures.level in
+    front_apart c.args.levels.now c.lay_before.new.levels c.lay_on_and_behind.new.levels c.args.parts.now c.args.item c.args.top.item c.args.top.right c.in-Ok.front _ x c.in-Ok-lay_on_and_behind.ensures.ok
 
-pub lay_across-returns-in_ok-whole-in-Ok-lay_onto-clause-level : goal.lay_across-returns-in_ok-whole-in-Ok-lay_onto-clause-level
-lay_across-returns-in_ok-whole-in-Ok-lay_onto-clause-level t c =
-    let x = fronted c.args.levels.now c.lay_front.new.levels c.args.parts.now c.args.item c.args.top.item c.args.top.left c.args.top.right c.in-Ok.front c.requires.owns c.in-Ok.ensures.ok c.requires.alone c.requires.level c.in-Ok.ensures.level in
-    across_level c.args.levels.now c.lay_front.new.levels c.lay_onto.new.levels c.glue.new.levels c.args.parts.now c.args.item c.args.top.item c.args.top.left c.args.top.right c.in-Ok.front c.in-Ok-lay_onto.back c.in_ok-whole-in-Ok-lay_onto.whole x
-    c.in-Ok-lay_onto.ensures.ok c.requires.alone c.requires.level c.requires.reaches c.in-Ok.ensures.level c.in-Ok-lay_onto.ensures.level c.in_ok-whole-in-Ok-lay_onto.ensures.level
+pub lay_at_top-returns-in_ok-whole-in-Ok-lay_on_and_behind-clause-level : goal.lay_at_top-returns-in_ok-whole-in-Ok-lay_on_and_behind-clause-level
+lay_at_top-returns-in_ok-whole-in-Ok-lay_on_and_behind-clause-level t c =
+    let x = fronted c.args.levels.now c.lay_before.new.levels c.args.parts.now c.args.item c.args.top.item c.args.top.left c.args.top.right c.in-Ok.front c.requires.owns c.in-Ok.ensures.ok c.requires.alone c.requires.level c.in-Ok.ensures.level in
+    across_level c.args.levels.now c.lay_before.new.levels c.lay_on_and_behind.new.levels c.glue.new.levels c.args.parts.now c.args.item c.args.top.item c.args.top.left c.args.top.right c.in-Ok.front c.in-Ok-lay_on_and_behind.back c.in_ok-whole-in-Ok-lay_on_and_behind.whole x
+    c.in-Ok-lay_on_and_behind.ensures.ok c.requires.alone c.requires.level c.requires.reaches c.in-Ok.ensures.level c.in-Ok-lay_on_and_behind.ensures.level c.in_ok-whole-in-Ok-lay_on_and_behind.ensures.level
 
-pub lay_front-lay_over-requires : goal.lay_front-lay_over-requires
-lay_front-lay_over-requires t c =
+pub lay_before-lay_from_top-requires : goal.lay_before-lay_from_top-requires
+lay_before-lay_from_top-requires t c =
     let x = piece_made c.args.levels.now c.shared_item.new.levels c.args.parts.now c.args.item.now c.in-Ok.piece c.args.edge.now c.args.rest c.compare_ends.result c.requires.owns c.in-Ok.ensures.ok c.in-Ok.ensures.child c.in-Ok.ensures.span c.compare_ends.ensures c.in-Less.is c.requires.alone c.requires.level in
     (omega (arith, ap length_of x.kept, c.decreases), (record { sound = x.sound; owned = λ m. omega (arith, x.held m) }, (x.alone, x.placed)))
 
-pub lay_onto-unite_common-requires : goal.lay_onto-unite_common-requires
-lay_onto-unite_common-requires t c =
-    let k = kept_below c.args.levels.now c.left_over.new.levels c.args.parts.now c.args.item c.args.under c.args.rest c.in-Ok.behind c.requires.owns c.in-Ok.ensures.ok c.requires.alone c.requires.level in
+pub lay_on_and_behind-unite_common-requires : goal.lay_on_and_behind-unite_common-requires
+lay_on_and_behind-unite_common-requires t c =
+    let k = kept_below c.args.levels.now c.lay_behind.new.levels c.args.parts.now c.args.item c.args.under c.args.rest c.in-Ok.behind c.requires.owns c.in-Ok.ensures.ok c.requires.alone c.requires.level in
     (omega (arith, c.decreases), (record { sound = c.in-Ok.ensures.ok.sound; owned = λ m. omega (arith, c.requires.owns.owned m, c.in-Ok.ensures.ok.held m) }, (k.first, k.second)))
 
-pub lay_onto-returns-clause-level : goal.lay_onto-returns-clause-level
-lay_onto-returns-clause-level t c =
-    onto_level c.args.levels.now c.left_over.new.levels c.unite_common.new.levels c.spread.new.levels c.args.parts.now c.args.item c.args.under c.args.rest c.in-Ok.behind c.in-Ok-unite_common.both c.in_ok-whole.whole
+pub lay_on_and_behind-returns-clause-level : goal.lay_on_and_behind-returns-clause-level
+lay_on_and_behind-returns-clause-level t c =
+    onto_level c.args.levels.now c.lay_behind.new.levels c.unite_common.new.levels c.spread.new.levels c.args.parts.now c.args.item c.args.under c.args.rest c.in-Ok.behind c.in-Ok-unite_common.both c.in_ok-whole.whole
     c.requires.owns c.in-Ok.ensures.ok c.in-Ok-unite_common.ensures.ok c.in-Ok.ensures.level c.in-Ok-unite_common.ensures.level c.in_ok-whole.ensures.level

@@ -1,5 +1,5 @@
 use Rattle.std.proofs.Common.{arith}
-use Rattle.rx_graft.proofs.Listed.{found_among}
+use Rattle.rx_graft.proofs.ListedLinks.{found_among}
 use Rattle.rx_graft.proofs.memory.Memory.find.Goals as goal
 
 pub returns-clause-some : goal.returns-clause-some

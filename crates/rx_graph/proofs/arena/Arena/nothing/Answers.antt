@@ -1,6 +1,6 @@
 use Rattle.std.proofs.Common.{◌+◌, [], rules}
 use Rattle.rx_graph.specs.declared.handles.Root.TheVariants.{Nothing}
-use Rattle.rx_graph.proofs.Steps.{canonical_given}
+use Rattle.rx_graph.proofs.GraphSteps.{canonical_given}
 use Rattle.rx_graph.proofs.arena.Arena.nothing.Goals as goal
 
 pub invariant_of-self : goal.invariant_of-self

@@ -3,8 +3,8 @@ use Rattle.rx_tree.specs.Points.{point_tree}
 use Rattle.rx_level.specs.Step.{level_of}
 use Rattle.rx_graph.specs.Graph.{AreCanonical, tree_in}
 use Rattle.rx_graph.proofs.Amounts.{counted}
-use Rattle.rx_graph.proofs.Steps.{canonical_kept, canonical_given}
-use Rattle.rx_graph.proofs.Listed.{level_stands, tree_canonical, tree_holds}
+use Rattle.rx_graph.proofs.GraphSteps.{canonical_kept, canonical_given}
+use Rattle.rx_graph.proofs.ListedRoots.{level_stands, tree_canonical, tree_holds}
 use Rattle.rx_graph.proofs.arena.Arena.point_set.Goals as goal
 
 pub returns-then-is_empty-clause-keys : goal.returns-then-is_empty-clause-keys

@@ -1,7 +1,7 @@
 use Rattle.std.proofs.Common.{◌-◌, ◌∙◌, [], ◌∷◌, arith, ap, sym, rules}
 use Rattle.rx_level.specs.Store.{held_of}
 use Rattle.rx_graph.proofs.Amounts.{counted}
-use Rattle.rx_graph.proofs.Steps.{canonical_kept, held_all, held_none, held_items}
+use Rattle.rx_graph.proofs.GraphSteps.{canonical_kept, held_all, held_none, held_items}
 use Rattle.rx_graph.proofs.arena.Arena.release.Goals as goal
 
 pub overflow_sub-self : goal.overflow_sub-self

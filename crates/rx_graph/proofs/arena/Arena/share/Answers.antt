@@ -2,7 +2,7 @@ use Rattle.std.proofs.Common.{◌∙◌, [], ◌∷◌, arith, ap, sym, subst, r
 use Rattle.rx_level.specs.Store.{held_of}
 use Rattle.rx_graph.specs.Graph.{AreCanonical}
 use Rattle.rx_graph.proofs.Amounts.{counted}
-use Rattle.rx_graph.proofs.Steps.{canonical_shared, held_items}
+use Rattle.rx_graph.proofs.GraphSteps.{canonical_shared, held_items}
 use Rattle.rx_graph.proofs.arena.Arena.share.Goals as goal
 
 pub share-requires-clause-held : goal.share-requires-clause-held

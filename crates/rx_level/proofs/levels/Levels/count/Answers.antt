@@ -1,7 +1,7 @@
 use Rattle.std.proofs.Common.{◌∙◌, ap}
 use Rattle.rx_tree.specs.Join.{length_of}
 use Rattle.rx_level.specs.Step.{level_of}
-use Rattle.rx_level.proofs.Sizes.{count_level}
+use Rattle.rx_level.proofs.LevelSizes.{count_level}
 use Rattle.rx_level.proofs.levels.Levels.count.Goals as goal
 
 pub returns : goal.returns

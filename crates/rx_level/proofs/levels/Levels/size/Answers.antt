@@ -1,7 +1,7 @@
 use Rattle.std.proofs.Common.{◌∙◌, ap}
 use Rattle.rx_tree.specs.Tree.{level_size}
 use Rattle.rx_level.specs.Step.{level_of}
-use Rattle.rx_level.proofs.Sizes.{size_level}
+use Rattle.rx_level.proofs.LevelSizes.{size_level}
 use Rattle.rx_level.proofs.levels.Levels.size.Goals as goal
 
 pub returns : goal.returns

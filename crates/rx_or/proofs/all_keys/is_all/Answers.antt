@@ -1,8 +1,8 @@
 use Rattle.std.proofs.Common.{◌∙◌, arith}
 use Rattle.rx_level.specs.Step.{level_of}
 use Rattle.rx_or.proofs.Laid.{all_alone, all_not}
-use Rattle.rx_or.proofs.wholes.is_all.Goals.{then-count-ne0-via-then-count-ne0, then-count-ne0-via-else-count-ne0+then-count-ne0-2, then-count-ne0-via-else-count-ne0+else-count-ne0-2+then-count-ne0-3}
-use Rattle.rx_or.proofs.wholes.is_all.Goals as goal
+use Rattle.rx_or.proofs.all_keys.is_all.Goals.{then-count-ne0-via-then-count-ne0, then-count-ne0-via-else-count-ne0+then-count-ne0-2, then-count-ne0-via-else-count-ne0+else-count-ne0-2+then-count-ne0-3}
+use Rattle.rx_or.proofs.all_keys.is_all.Goals as goal
 
 pub returns-then-count-ne0 : goal.returns-then-count-ne0
 returns-then-count-ne0 c =
@@ -15,7 +15,7 @@ returns-then-count-ne0 c =
 
 pub returns : goal.returns
 returns c =
-    c.is_whole.ensures
+    c.is_whole_span.ensures
     ∙ all_alone c.args.nullable (level_of c.args.levels.now c.args.root) (level_of c.args.levels.now c.in-Some.top.left) (level_of c.args.levels.now c.in-Some.top.child) (level_of c.args.levels.now c.in-Some.top.right) c.in-Some.top.span.now c.in-Some.ensures.level
     (omega (arith, c.if-count-ne0.false, c.count.ensures))
     (omega (arith, c.if-count-ne0-2.false, c.count-else-count-ne0.ensures))

@@ -13,9 +13,9 @@ use Rattle.rx_level.proofs.Steps.{held_there, keeps_root}
 use Rattle.rx_level.proofs.Lending.{lent_held}
 use Rattle.rx_graft.specs.Hang.{hung, hung_below, depth_of}
 use Rattle.rx_graft.specs.Made.{Made, Among, levels_of, IsReady, Adds, Hangs}
-use Rattle.rx_graft.proofs.Listed.{leads_among}
+use Rattle.rx_graft.proofs.ListedLinks.{leads_among}
 use Rattle.rx_graft.proofs.Depths.{links_from, Smaller, smaller, some_item, below_none, below_some}
-use Rattle.rx_graft.proofs.Standing.{node_of, tree_forked}
+use Rattle.rx_graft.proofs.GraftedTrees.{node_of, tree_forked}
 use Rattle.rx_graft.proofs.Adding.{adds_given, stays}
 use Rattle.rx_graft.proofs.Ready.{ready_given, link_lent, links_stay}
 use Rattle.rx_graft.proofs.Wholes.{Opened, Three, Whole, opened_level}

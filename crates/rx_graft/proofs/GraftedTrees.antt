@@ -5,7 +5,7 @@ use Rattle.rx_value.specs.declared.order.Span.{Span}
 use Rattle.rx_level.specs.declared.nodes.Node.{Node}
 use Rattle.rx_level.specs.Tree.{Tree, Fork, fork_of}
 use Rattle.rx_level.specs.Tree.Tree.{none, some}
-use Rattle.rx_level.specs.Store.{IsSound, Parts, parts_in, rank_in, tree_of, tree_at}
+use Rattle.rx_level.specs.Store.{IsSound, Body, body_in, rank_in, tree_of, tree_at}
 use Rattle.rx_level.specs.Step.{Lent}
 use Rattle.rx_level.specs.Standing.{StandsAt, StandsIn}
 use Rattle.rx_level.specs.Standing.StandsAt.{here, below, left, right}
@@ -85,8 +85,8 @@ pub record IsStanding (s : Slab Node) (k : ℕ) (t : Tree) : Type 0 where
 larger : (s : Slab Node) (k : ℕ) (t u : Tree) → IsStanding s k t → nodes_of t ≤ nodes_of u → IsStanding s k u
 larger s k t u h low = let small = h.small in record { lent = h.lent; small = omega (arith, small, low) }
 
-abbrev parts_of : Node → Parts
-parts_of v = record { span = v.span; child = v.child; left = v.left; right = v.right }
+abbrev body_of : Node → Body
+body_of v = record { span = v.span; child = v.child; left = v.left; right = v.right }
 
 pub standing : (s : Slab Node) → IsSound s [] → (k p : ℕ) (t : Tree) → StandsAt k p t → (root : Option ℕ) → tree_of s root ≡ t → Lent s [] root → IsStanding s k t
 standing s sound k p t (here sp c l r) root e lent =
@@ -97,15 +97,15 @@ standing s sound k p t (here sp c l r) root e lent =
     }
 standing s sound k p t (below q m sp c l r h) root e lent =
     let v = rooted s sound root m sp c l r e in
-    let links = lent_links s sound [] m (subst (λ (x : Option ℕ). Lent s [] x) v.root_is lent) (parts_of v.node) (ap parts_in v.is) in
+    let links = lent_links s sound [] m (subst (λ (x : Option ℕ). Lent s [] x) v.root_is lent) (body_of v.node) (ap body_in v.is) in
     larger s k c (some m sp c l r) (standing s sound k q c h v.node.child v.child links.child) (omega arith)
 standing s sound k p t (left q m sp c l r h) root e lent =
     let v = rooted s sound root m sp c l r e in
-    let links = lent_links s sound [] m (subst (λ (x : Option ℕ). Lent s [] x) v.root_is lent) (parts_of v.node) (ap parts_in v.is) in
+    let links = lent_links s sound [] m (subst (λ (x : Option ℕ). Lent s [] x) v.root_is lent) (body_of v.node) (ap body_in v.is) in
     larger s k l (some m sp c l r) (standing s sound k q l h v.node.left v.left links.left) (omega arith)
 standing s sound k p t (right q m sp c l r h) root e lent =
     let v = rooted s sound root m sp c l r e in
-    let links = lent_links s sound [] m (subst (λ (x : Option ℕ). Lent s [] x) v.root_is lent) (parts_of v.node) (ap parts_in v.is) in
+    let links = lent_links s sound [] m (subst (λ (x : Option ℕ). Lent s [] x) v.root_is lent) (body_of v.node) (ap body_in v.is) in
     larger s k r (some m sp c l r) (standing s sound k q r h v.node.right v.right links.right) (omega arith)
 
 -- where a number stands in a node's tree

@@ -9,8 +9,8 @@ use Rattle.rx_value.specs.Order.{end_cmp}
 use Rattle.rx_value.specs.Spans.{IsBelow, later, earlier}
 use Rattle.rx_value.proofs.Ends.{below-from_less}
 use Rattle.rx_tree.specs.Tree.{Level}
-use Rattle.rx_tree.specs.Meet.{part_of, put_part}
-use Rattle.rx_tree.specs.Union.{between as piece_between}
+use Rattle.rx_tree.specs.Meet.{piece_of, put_piece}
+use Rattle.rx_tree.specs.Union.{piece_between}
 use Rattle.rx_tree.specs.Weld.{weld}
 use Rattle.rx_level.specs.declared.nodes.Node.{Node}
 use Rattle.rx_level.specs.declared.trees.Item.{Item}
@@ -20,9 +20,9 @@ use Rattle.rx_or.specs.Below.{in_parts}
 
 -- between ends of which the first is below the second lies an item
 pub between_less : (lo hi : End) (c rest : Level) → end_cmp lo hi ≡ Less → piece_between lo hi c rest ≡ weld (record { lo = lo; hi = hi }) c rest
-between_less lo hi c rest e = ap (λ (o : Ordering). put_part (part_of (elim o [ Less ↦ Some (record { lo = lo; hi = hi }) | _ ↦ None ]) (Some c)) rest) e
+between_less lo hi c rest e = ap (λ (o : Ordering). put_piece (piece_of (elim o [ Less ↦ Some (record { lo = lo; hi = hi }) | _ ↦ None ]) (Some c)) rest) e
 
-between_none : (lo hi : End) (c rest : Level) (o : Ordering) → (o ≡ Less → ⊥) → put_part (part_of (elim o [ Less ↦ Some (record { lo = lo; hi = hi }) | _ ↦ None ]) (Some c)) rest ≡ rest
+between_none : (lo hi : End) (c rest : Level) (o : Ordering) → (o ≡ Less → ⊥) → put_piece (piece_of (elim o [ Less ↦ Some (record { lo = lo; hi = hi }) | _ ↦ None ]) (Some c)) rest ≡ rest
 between_none lo hi c rest Less not = absurd (not refl)
 between_none lo hi c rest Equal not = refl
 between_none lo hi c rest Greater not = refl
@@ -31,11 +31,11 @@ between_none lo hi c rest Greater not = refl
 pub between_not : (lo hi : End) (c rest : Level) (o : Ordering) → o ≡ end_cmp lo hi → (o ≡ Less → ⊥) → rest ≡ piece_between lo hi c rest
 between_not lo hi c rest o e not = sym (between_none lo hi c rest (end_cmp lo hi) (λ l. not (e ∙ l)))
 
-pub put_piece : (a b d : Slab Node) (lo hi : End) (child rest whole : Option ℕ) (x : Item) (o : Ordering)
+pub piece_put : (a b d : Slab Node) (lo hi : End) (child rest whole : Option ℕ) (x : Item) (o : Ordering)
     → Owns a (child ∷ rest ∷ []) → Step a b [] (x.child ∷ []) → x.child ≡ child → x.span ≡ record { lo = lo; hi = hi } → o ≡ end_cmp lo hi → o ≡ Less
     → level_of d whole ≡ weld x.span (level_of b x.child) (level_of b rest)
     → level_of d whole ≡ piece_between lo hi (level_of a child) (level_of a rest)
-put_piece a b d lo hi child rest whole x o owns one is_child is_span compared less level =
+piece_put a b d lo hi child rest whole x o owns one is_child is_span compared less level =
     let below = kept_root a b _ _ one child (λ m. omega (arith, owns.owned m)) in
     let back = kept_root a b _ _ one rest (λ m. omega (arith, owns.owned m)) in
     level
@@ -44,7 +44,7 @@ put_piece a b d lo hi child rest whole x o owns one is_child is_span compared le
     ∙ sym (between_less lo hi (level_of a child) (level_of a rest) (sym compared ∙ less))
 
 -- what stands between two ends counts only where the first is below the second
-between_same_by : (lo hi : End) (c d rest : Level) (o : Ordering) → (o ≡ Less → c ≡ d) → put_part (part_of (elim o [ Less ↦ Some (record { lo = lo; hi = hi }) | _ ↦ None ]) (Some c)) rest ≡ put_part (part_of (elim o [ Less ↦ Some (record { lo = lo; hi = hi }) | _ ↦ None ]) (Some d)) rest
+between_same_by : (lo hi : End) (c d rest : Level) (o : Ordering) → (o ≡ Less → c ≡ d) → put_piece (piece_of (elim o [ Less ↦ Some (record { lo = lo; hi = hi }) | _ ↦ None ]) (Some c)) rest ≡ put_piece (piece_of (elim o [ Less ↦ Some (record { lo = lo; hi = hi }) | _ ↦ None ]) (Some d)) rest
 between_same_by lo hi c d rest Less same = ap (λ x. weld (record { lo = lo; hi = hi }) x rest) (same refl)
 between_same_by lo hi c d rest Equal same = refl
 between_same_by lo hi c d rest Greater same = refl

@@ -9,7 +9,7 @@ use Rattle.rx_tree.specs.Join.{join_level}
 use Rattle.rx_tree.specs.Weld.{is_same_end, is_touching, is_same_level, span_over, weld, glue}
 use Rattle.rx_tree.proofs.Welding.{same_end-itself, same_level-itself, joined, weld_apart, glue-weld}
 use Rattle.rx_tree.proofs.Sizes.{weld_size}
-use Rattle.rx_weld.specs.Apart.{AreApart}
+use Rattle.rx_weld.specs.Seamless.{IsSeamless}
 
 tested : (s t : Span) (c d : Level) → s.hi ≡ t.lo → c ≡ d → (is_touching s t && is_same_level c d) ≡ true
 tested s t c d touch same =
@@ -53,22 +53,22 @@ differs_over : (s t : Span) (c d rest : Level) → c ≡ d → Differs t d rest 
 differs_over s t c d end same differs = tt
 differs_over s t c d (item u e more) same differs = λ touch alike. differs touch (sym same ∙ alike)
 
-weld_are_apart_by : (s t : Span) (c d rest : Level) (b : Bool) → (is_touching s t && is_same_level c d) ≡ b → AreApart (item t d rest) → AreApart (cond b (item (span_over s t) c rest) (item s c (item t d rest)))
+weld_are_apart_by : (s t : Span) (c d rest : Level) (b : Bool) → (is_touching s t && is_same_level c d) ≡ b → IsSeamless (item t d rest) → IsSeamless (cond b (item (span_over s t) c rest) (item s c (item t d rest)))
 weld_are_apart_by s t c d rest true e apart = (differs_over s t c d rest (joined s t c d e).1 apart.0, apart.1)
 weld_are_apart_by s t c d rest false e apart = (untested s t c d e, apart)
 
 -- neighbours stay apart where an item is welded before them
-pub weld_are_apart : (s : Span) (c rest : Level) → AreApart rest → AreApart (weld s c rest)
+pub weld_are_apart : (s : Span) (c rest : Level) → IsSeamless rest → IsSeamless (weld s c rest)
 weld_are_apart s c end apart = (tt, tt)
 weld_are_apart s c (item t d rest) apart = weld_are_apart_by s t c d rest (is_touching s t && is_same_level c d) refl apart
 
 -- and where a level is glued before them
-pub glue_are_apart : (a b : Level) → AreApart b → AreApart (glue a b)
+pub glue_are_apart : (a b : Level) → IsSeamless b → IsSeamless (glue a b)
 glue_are_apart end b apart = apart
 glue_are_apart (item s c rest) b apart = weld_are_apart s c (glue rest b) (glue_are_apart rest b apart)
 
 -- a level whose neighbours can't be one item is glued together already
-pub glue_nothing : (a : Level) → AreApart a → glue a end ≡ a
+pub glue_nothing : (a : Level) → IsSeamless a → glue a end ≡ a
 glue_nothing end apart = refl
 glue_nothing (item s c rest) apart = ap (weld s c) (glue_nothing rest apart.1) ∙ weld_apart s c rest apart.0
 
@@ -77,18 +77,18 @@ differs_join s c end i d r j y begins differs = differs_weld s c j d y (λ touch
 differs_join s c (item u e l) i d r j y begins differs = differs
 
 -- what is glued behind an item of a level, with any upper end, leaves the items before it
-pub glue_join : (l : Level) (i : Span) (d r : Level) (j : Span) (b y : Level) → j.lo ≡ i.lo → AreApart (join_level l (item i d r)) → glue (join_level l (item j d b)) y ≡ join_level l (weld j d (glue b y))
+pub glue_join : (l : Level) (i : Span) (d r : Level) (j : Span) (b y : Level) → j.lo ≡ i.lo → IsSeamless (join_level l (item i d r)) → glue (join_level l (item j d b)) y ≡ join_level l (weld j d (glue b y))
 glue_join end i d r j b y begins apart = refl
 glue_join (item u c l) i d r j b y begins apart =
     ap (weld u c) (glue_join l i d r j b y begins apart.1)
     ∙ weld_apart u c (join_level l (weld j d (glue b y))) (differs_join u c l i d r j (glue b y) begins apart.0)
 
 -- a level whose neighbours can't be one item is glued at its last item alone
-pub glue_last : (before : Level) (s : Span) (c b : Level) → AreApart (join_level before (item s c end)) → glue (join_level before (item s c end)) b ≡ join_level before (weld s c b)
+pub glue_last : (before : Level) (s : Span) (c b : Level) → IsSeamless (join_level before (item s c end)) → glue (join_level before (item s c end)) b ≡ join_level before (weld s c b)
 glue_last before s c b apart = glue_join before s c end s end b refl apart
 
 -- what is glued together is at least as large as the first level
-pub glue_size_first : (a b : Level) → AreApart a → level_size a ≤ level_size (glue a b)
+pub glue_size_first : (a b : Level) → IsSeamless a → level_size a ≤ level_size (glue a b)
 glue_size_first end b apart = omega arith
 glue_size_first (item s c end) b apart = let w = weld_size s c b in omega (arith, w.child)
 glue_size_first (item s c (item t d rest)) b apart =

@@ -2,10 +2,10 @@
 
 ghost use Rattle.std.specs.Prelude.{◌≡◌, List, [], ◌∷◌, Option, Some, None, IfOk, OnErr};
 ghost use Rattle.rx_tree.specs.Tree.{Level};
-ghost use Rattle.rx_tree.specs.Union.{between as piece_between};
+ghost use Rattle.rx_tree.specs.Union.{piece_between};
 ghost use Rattle.rx_level.specs.Step.{Owns, Step, level_of};
 
-use rx_level::{Item, Levels, copy_end};
+use rx_level::{Item, Levels, Link, Owned};
 use rx_value::{End, Span, compare_ends};
 use rx_weld::weld_front;
 use std::alloc::{AllocError, Global};
@@ -18,7 +18,7 @@ pub fn shared_item(
     part: u32,
     lo: &End,
     hi: &End,
-    child: Option<usize>,
+    child: Link,
 ) -> Result<Item, AllocError>
     requires { Owns levels.old (child ∷ []) }
     ensures ok { IfOk result (λ i. Step levels.old levels.new [] (i.child ∷ [])) }
@@ -26,8 +26,8 @@ pub fn shared_item(
     ensures span { IfOk result (λ i. i.span ≡ record { lo = lo.now; hi = hi.now }) }
     ensures err { OnErr result (levels.new ≡ levels.old) }
 {
-    let lo = copy_end(alloc, lo)?;
-    let hi = copy_end(alloc, hi)?;
+    let lo = lo.copy(alloc)?;
+    let hi = hi.copy(alloc)?;
     levels.hold(child)?;
     let span = Span { lo, hi };
     Ok(Item { part, span, child })
@@ -41,9 +41,9 @@ pub fn put_between(
     part: u32,
     lo: &End,
     hi: &End,
-    child: Option<usize>,
-    rest: Option<usize>,
-) -> Result<Option<usize>, AllocError>
+    child: Link,
+    rest: Owned,
+) -> Result<Owned, AllocError>
     requires { Owns levels.old (child ∷ rest ∷ []) }
     ensures ok { IfOk result (λ r. Step levels.old levels.new (rest ∷ []) (r ∷ [])) }
     ensures level { IfOk result (λ r. level_of levels.new r ≡ piece_between lo.now hi.now (level_of levels.old child) (level_of levels.old rest)) }

@@ -14,7 +14,7 @@ use Rattle.rx_level.specs.Step.{Owns, Step, level_of}
 use Rattle.rx_graph.specs.declared.handles.Root.{Root}
 use Rattle.rx_graph.specs.declared.handles.Root.TheVariants.{Items}
 use Rattle.rx_graph.specs.Graph.{Graph, Steps, IsHeld, AreCanonical, tree_in}
-use Rattle.rx_graph.proofs.Steps.{canonical_given}
+use Rattle.rx_graph.proofs.GraphSteps.{canonical_given}
 use Rattle.rx_graph.proofs.Back.{times_first, times_second}
 use Rattle.rx_or.specs.Below.{union_below, unless_all}
 use Rattle.rx_or.proofs.Opened.{some_level}

@@ -2,8 +2,8 @@ use Rattle.std.proofs.Common.{◌≡◌, ◌+◌, [], ◌∷◌, arith, sym, ◌
 use Rattle.rx_graph.specs.Graph.{handle_count}
 use Rattle.rx_graph.specs.declared.handles.Root.TheVariants.{Items}
 use Rattle.rx_graph.proofs.Amounts.{counted}
-use Rattle.rx_or.proofs.Roots.{given_items_or, keys_items_or}
-use Rattle.rx_or.proofs.graphs.or.Goals as goal
+use Rattle.rx_or.proofs.UnionRoots.{given_items_or, keys_items_or}
+use Rattle.rx_or.proofs.unions.or.Goals as goal
 
 pub returns-in-Ok-clause-keys : goal.returns-in-Ok-clause-keys
 returns-in-Ok-clause-keys c ps tuple =
