@@ -22,9 +22,9 @@ use Rattle.rx_graph.specs.declared.handles.Root.{Root}
 use Rattle.rx_graph.specs.declared.handles.Root.TheVariants.{Items, Nothing}
 use Rattle.rx_graph.specs.Graph.{Graph, AreCanonical, link_of, tree_in}
 use Rattle.rx_and.specs.Before.{IsBefore}
-use Rattle.rx_and.specs.Rising.{AreRising}
-use Rattle.rx_and.proofs.Rising.{placed_rise}
-use Rattle.rx_and.proofs.Meets.{HasItems, stays, lent_items, both_later, rises_later}
+use Rattle.rx_and.specs.Fellows.{AreFellows}
+use Rattle.rx_and.proofs.Fellows.{fellows_later}
+use Rattle.rx_and.proofs.Meets.{HasItems, stays, lent_items, both_later}
 
 lengths : (s : Slab Node) (links : List (Option ℕ)) → length (levels_of s links) ≡ length links
 lengths s [] = refl
@@ -62,7 +62,7 @@ too_short a parts g h links two is short before =
 pub record Later (a b : Slab Node) (g h : ℕ) : Type 0 where
   pub lent_g : Lent b [] (Some g)
   pub lent_h : Lent b [] (Some h)
-  pub rising : AreRising (level_of b (Some h))
+  pub fellows : AreFellows (level_of b (Some g)) (level_of b (Some h))
   pub same : both (level_of b (Some g)) (level_of b (Some h)) ≡ both (level_of a (Some g)) (level_of a (Some h))
 
 pub later : (a b : Slab Node) (parts : List Bool) (g h : ℕ) → Two a parts g h → Step a b [] [] → Later a b g h
@@ -72,7 +72,7 @@ later a b parts g h two step =
     record {
       lent_g = one.lent;
       lent_h = other.lent;
-      rising = rises_later a b (Some h) other (placed_rise parts (level_of a (Some h)) two.second.placed);
+      fellows = fellows_later a b (Some g) (Some h) one other (record { parts = parts; first = two.first.placed; second = two.second.placed });
       same = both_later a b (Some g) (Some h) one other;
     }
 

@@ -1,6 +1,7 @@
-pub mod Apart
+pub mod Pieces
 pub mod Rising
 pub mod Placed
 pub mod Meets
-pub mod Roots
+pub mod MeetRoots
 pub mod Hanging
+pub mod Fellows

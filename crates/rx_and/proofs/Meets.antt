@@ -8,20 +8,19 @@ use Rattle.rx_tree.specs.Tree.{Level, level_size}
 use Rattle.rx_tree.specs.Tree.Level.{end, item}
 use Rattle.rx_tree.specs.Join.{join_level}
 use Rattle.rx_tree.specs.Weld.{glue}
-use Rattle.rx_tree.specs.Meet.{Part, part_of, put_part, meet_child, unless_end, across, both}
+use Rattle.rx_tree.specs.Meet.{Piece, piece_of, put_piece, meet_child, unless_end, across, both}
 use Rattle.rx_tree.proofs.Welding.{glue_assoc}
 use Rattle.rx_tree.proofs.Sizes.{glue_second}
 use Rattle.rx_tree.proofs.Joining.{size-join, across-join, both-join}
 use Rattle.rx_level.specs.Tree.{plain}
-use Rattle.rx_level.specs.Store.{IsSound, parts_in}
+use Rattle.rx_level.specs.Store.{IsSound, body_in}
 use Rattle.rx_level.specs.Step.{Owns, Step, Lent, level_of}
 use Rattle.rx_level.proofs.Steps.{held_there, level_of-parts}
 use Rattle.rx_level.proofs.Lending.{lent_after}
 use Rattle.rx_level.proofs.Turning.{kept_root}
-use Rattle.rx_weld.specs.Apart.{AreApart}
-use Rattle.rx_and.specs.Rising.{AreRising}
-use Rattle.rx_weld.proofs.Apart.{glue_size_first}
-use Rattle.rx_and.proofs.Apart.{across_are_apart, both_are_apart}
+use Rattle.rx_weld.specs.Seamless.{IsSeamless}
+use Rattle.rx_weld.proofs.Seamless.{glue_size_first}
+use Rattle.rx_and.proofs.Pieces.{across_are_apart, both_are_apart}
 use Rattle.rx_and.proofs.Rising.{Keeps}
 
 -- the parts of a level are smaller
@@ -59,7 +58,7 @@ pub record Within (x m r whole : Level) : Type 0 where
   pub second : level_size m ≤ level_size whole
   pub third : level_size r ≤ level_size whole
 
-within : (x m r whole : Level) → AreApart x → AreApart m → glue x (glue m r) ≡ whole → Within x m r whole
+within : (x m r whole : Level) → IsSeamless x → IsSeamless m → glue x (glue m r) ≡ whole → Within x m r whole
 within x m r whole apart_x apart_m is =
     let size : level_size (glue x (glue m r)) ≡ level_size whole = ap level_size is in
     let back = glue_second x (glue m r) in
@@ -69,29 +68,29 @@ within x m r whole apart_x apart_m is =
       third = omega (arith, glue_second m r, back, size);
     }
 
-piece_apart : (p : Option Part) → AreApart (put_part p end)
+piece_apart : (p : Option Piece) → IsSeamless (put_piece p end)
 piece_apart None = tt
 piece_apart (Some p) = (tt, tt)
 
 -- an item before a level is a level of one item glued before it
-put_alone : (p : Option Part) (b : Level) → glue (put_part p end) b ≡ put_part p b
+put_alone : (p : Option Piece) (b : Level) → glue (put_piece p end) b ≡ put_piece p b
 put_alone None b = refl
 put_alone (Some p) b = refl
 
 -- what an item has in common with a level that is taken apart at an item
 across_parts : (f : Level → Level) (c : Level) (s t : Span) (p : Option Span) (whole before below after : Level) → whole ≡ join_level before (item t below after) → p ≡ meet_span s t
-    → glue (across f c s before) (glue (put_part (part_of p (meet_child f c below)) end) (across f c s after)) ≡ across f c s whole
+    → glue (across f c s before) (glue (put_piece (piece_of p (meet_child f c below)) end) (across f c s after)) ≡ across f c s whole
 across_parts f c s t p whole before below after opened is =
-    ap (λ q. glue (across f c s before) (glue (put_part (part_of q (meet_child f c below)) end) (across f c s after))) is
-    ∙ ap (glue (across f c s before)) (put_alone (part_of (meet_span s t) (meet_child f c below)) (across f c s after))
+    ap (λ q. glue (across f c s before) (glue (put_piece (piece_of q (meet_child f c below)) end) (across f c s after))) is
+    ∙ ap (glue (across f c s before)) (put_alone (piece_of (meet_span s t) (meet_child f c below)) (across f c s after))
     ∙ sym (across-join f c s before (item t below after))
     ∙ ap (across f c s) (sym opened)
 
 pub across_within : (f : Level → Level) (c : Level) (s t : Span) (p : Option Span) (whole before below after : Level) → whole ≡ join_level before (item t below after) → p ≡ meet_span s t
-    → Within (across f c s before) (put_part (part_of p (meet_child f c below)) end) (across f c s after) (across f c s whole)
+    → Within (across f c s before) (put_piece (piece_of p (meet_child f c below)) end) (across f c s after) (across f c s whole)
 across_within f c s t p whole before below after opened is =
-    within (across f c s before) (put_part (part_of p (meet_child f c below)) end) (across f c s after) (across f c s whole)
-    (across_are_apart f c s before) (piece_apart (part_of p (meet_child f c below))) (across_parts f c s t p whole before below after opened is)
+    within (across f c s before) (put_piece (piece_of p (meet_child f c below)) end) (across f c s after) (across f c s whole)
+    (across_are_apart f c s before) (piece_apart (piece_of p (meet_child f c below))) (across_parts f c s t p whole before below after opened is)
 
 -- what a level that is taken apart at an item has in common with another
 both_parts : (s : Span) (whole before below after h : Level) → whole ≡ join_level before (item s below after)
@@ -112,9 +111,6 @@ across_later a b c h s stays_c stays_h = rw (stays_c.level, stays_h.level) refl
 pub across_kept : (a b : Slab Node) (c side kept : Option ℕ) (s : Span) → Keeps a s side kept → Stays a b c → Stays a b kept
     → across (both (level_of b c)) (level_of b c) s (level_of b kept) ≡ across (both (level_of a c)) (level_of a c) s (level_of a side)
 across_kept a b c side kept s keeps stays_c stays_h = across_later a b c kept s stays_c stays_h ∙ keeps.same (both (level_of a c)) (level_of a c)
-
-pub rises_later : (a b : Slab Node) (r : Option ℕ) → Stays a b r → AreRising (level_of a r) → AreRising (level_of b r)
-rises_later a b r stay rising = subst AreRising (sym stay.level) rising
 
 pub both_later : (a b : Slab Node) (g h : Option ℕ) → Stays a b g → Stays a b h → both (level_of b g) (level_of b h) ≡ both (level_of a g) (level_of a h)
 both_later a b g h stays_g stays_h = rw (stays_g.level, stays_h.level) refl
@@ -137,14 +133,14 @@ kept a b d e middle front back one two three = record {
 -- three levels that are glued to this one
 pub record Glues (s : Slab Node) (front middle back : Option ℕ) (whole : Level) : Type 0 where
   pub is : glue (level_of s front) (glue (level_of s middle) (level_of s back)) ≡ whole
-  pub front_apart : AreApart (level_of s front)
-  pub middle_apart : AreApart (level_of s middle)
+  pub front_apart : IsSeamless (level_of s front)
+  pub middle_apart : IsSeamless (level_of s middle)
 
-glues_from : (s : Slab Node) (front middle back : Option ℕ) (x m r whole : Level) → level_of s front ≡ x → level_of s middle ≡ m → level_of s back ≡ r → AreApart x → AreApart m → glue x (glue m r) ≡ whole → Glues s front middle back whole
+glues_from : (s : Slab Node) (front middle back : Option ℕ) (x m r whole : Level) → level_of s front ≡ x → level_of s middle ≡ m → level_of s back ≡ r → IsSeamless x → IsSeamless m → glue x (glue m r) ≡ whole → Glues s front middle back whole
 glues_from s front middle back x m r whole is_x is_m is_r apart_x apart_m is = record {
   is = (rw (is_x, is_m, is_r) refl) ∙ is;
-  front_apart = subst AreApart (sym is_x) apart_x;
-  middle_apart = subst AreApart (sym is_m) apart_m;
+  front_apart = subst IsSeamless (sym is_x) apart_x;
+  middle_apart = subst IsSeamless (sym is_m) apart_m;
 }
 
 -- what an item and a level have in common
@@ -152,7 +148,7 @@ pub crossed : (a b d e : Slab Node) (hroot c child l r low high middle front bac
     → IsSound a [] → Lent a [] c → Keeps a s l low → Keeps a s r high
     → level_of a hroot ≡ join_level (level_of a l) (item t (level_of a child) (level_of a r))
     → p ≡ meet_span s t
-    → Step a b [] (middle ∷ []) → level_of b middle ≡ put_part (part_of p (meet_child (both (level_of a c)) (level_of a c) (level_of a child))) end
+    → Step a b [] (middle ∷ []) → level_of b middle ≡ put_piece (piece_of p (meet_child (both (level_of a c)) (level_of a c) (level_of a child))) end
     → Step b d [] (front ∷ []) → level_of d front ≡ across (both (level_of b c)) (level_of b c) s (level_of b low)
     → Step d e [] (back ∷ []) → level_of e back ≡ across (both (level_of d c)) (level_of d c) s (level_of d high)
     → Glues e front middle back (across (both (level_of a c)) (level_of a c) s (level_of a hroot))
@@ -160,11 +156,11 @@ crossed a b d e hroot c child l r low high middle front back s t p sound lent_c 
     let k = kept a b d e middle front back one two three in
     let C = level_of a c in
     glues_from e front middle back
-    (across (both C) C s (level_of a l)) (put_part (part_of p (meet_child (both C) C (level_of a child))) end) (across (both C) C s (level_of a r)) (across (both C) C s (level_of a hroot))
+    (across (both C) C s (level_of a l)) (put_piece (piece_of p (meet_child (both C) C (level_of a child))) end) (across (both C) C s (level_of a r)) (across (both C) C s (level_of a hroot))
     (k.front_kept ∙ is_front ∙ across_kept a b c l low s keeps_l (stays a b _ sound one c lent_c) (stays a b _ sound one low keeps_l.lent))
     (k.middle_kept ∙ is_middle)
     (is_back ∙ across_kept a d c r high s keeps_r (stays_two a b d _ _ sound one two c lent_c) (stays_two a b d _ _ sound one two high keeps_r.lent))
-    (across_are_apart (both C) C s (level_of a l)) (piece_apart (part_of p (meet_child (both C) C (level_of a child))))
+    (across_are_apart (both C) C s (level_of a l)) (piece_apart (piece_of p (meet_child (both C) C (level_of a child))))
     (across_parts (both C) C s t p (level_of a hroot) (level_of a l) (level_of a child) (level_of a r) opened is_p)
 
 -- what two levels have in common
@@ -207,7 +203,7 @@ has_items s sound k (Some v) is there =
       span = items.span;
       below = items.below;
       rest = items.rest;
-      is = level_of-parts s sound k (record { span = v.span; child = v.child; left = v.left; right = v.right }) (ap parts_in is) ∙ items.is;
+      is = level_of-parts s sound k (record { span = v.span; child = v.child; left = v.left; right = v.right }) (ap body_in is) ∙ items.is;
     }
 
 pub lent_items : (s : Slab Node) → IsSound s [] → (r : Option ℕ) (k : ℕ) → r ≡ Some k → Lent s [] r → HasItems (level_of s r)
@@ -223,39 +219,39 @@ meet_child-items f c d has_c has_d = rw (has_c.is, has_d.is) refl
 
 -- where both items have children, what those have in common decides
 piece_is : (a : Slab Node) (c d : Option ℕ) (i j : ℕ) (part : Option Span) (span : Span) (f : Level → Level) → IsSound a [] → part ≡ Some span → c ≡ Some i → Lent a [] c → d ≡ Some j → Lent a [] d
-    → put_part (part_of part (meet_child f (level_of a c) (level_of a d))) end ≡ put_part (part_of (Some span) (unless_end (f (level_of a d)))) end
+    → put_piece (piece_of part (meet_child f (level_of a c) (level_of a d))) end ≡ put_piece (piece_of (Some span) (unless_end (f (level_of a d)))) end
 piece_is a c d i j part span f sound is is_c lent_c is_d lent_d =
     let e = meet_child-items f (level_of a c) (level_of a d) (lent_items a sound c i is_c lent_c) (lent_items a sound d j is_d lent_d) in
-    ap (λ p. put_part (part_of p (meet_child f (level_of a c) (level_of a d))) end) is ∙ ap (λ x. put_part (part_of (Some span) x) end) e
+    ap (λ p. put_piece (piece_of p (meet_child f (level_of a c) (level_of a d))) end) is ∙ ap (λ x. put_piece (piece_of (Some span) x) end) e
 
-one_over : (x : Level) (span : Span) (limit : ℕ) → limit < level_size x → limit < level_size (put_part (part_of (Some span) (unless_end x)) end)
+one_over : (x : Level) (span : Span) (limit : ℕ) → limit < level_size x → limit < level_size (put_piece (piece_of (Some span) (unless_end x)) end)
 one_over end span limit over = absurd (omega (arith, over))
 one_over (item s c rest) span limit over = omega (arith, over)
 
 pub piece_over : (a : Slab Node) (c d : Option ℕ) (i j limit : ℕ) (part : Option Span) (span : Span) → IsSound a [] → part ≡ Some span → c ≡ Some i → Lent a [] c → d ≡ Some j → Lent a [] d
     → limit < level_size (both (level_of a c) (level_of a d))
-    → limit < level_size (put_part (part_of part (meet_child (both (level_of a c)) (level_of a c) (level_of a d))) end)
+    → limit < level_size (put_piece (piece_of part (meet_child (both (level_of a c)) (level_of a c) (level_of a d))) end)
 piece_over a c d i j limit part span sound is is_c lent_c is_d lent_d over =
     let e = ap level_size (piece_is a c d i j part span (both (level_of a c)) sound is is_c lent_c is_d lent_d) in
     omega (arith, e, one_over (both (level_of a c) (level_of a d)) span limit over)
 
 pub piece_none : (a b : Slab Node) (c d child : Option ℕ) (i j : ℕ) (part : Option Span) (span : Span) → IsSound a [] → part ≡ Some span → c ≡ Some i → Lent a [] c → d ≡ Some j → Lent a [] d
     → child ≡ None → level_of b child ≡ both (level_of a c) (level_of a d)
-    → end ≡ put_part (part_of part (meet_child (both (level_of a c)) (level_of a c) (level_of a d))) end
+    → end ≡ put_piece (piece_of part (meet_child (both (level_of a c)) (level_of a c) (level_of a d))) end
 piece_none a b c d child i j part span sound is is_c lent_c is_d lent_d absent level =
     let empty : end ≡ both (level_of a c) (level_of a d) = ap (level_of b) (sym absent) ∙ level in
-    ap (λ x. put_part (part_of (Some span) (unless_end x)) end) empty
+    ap (λ x. put_piece (piece_of (Some span) (unless_end x)) end) empty
     ∙ sym (piece_is a c d i j part span (both (level_of a c)) sound is is_c lent_c is_d lent_d)
 
-unless_end-items : (x : Level) (span : Span) → HasItems x → item span x end ≡ put_part (part_of (Some span) (unless_end x)) end
+unless_end-items : (x : Level) (span : Span) → HasItems x → item span x end ≡ put_piece (piece_of (Some span) (unless_end x)) end
 unless_end-items x span has = rw has.is refl
 
 pub piece_some : (a b : Slab Node) (c d child : Option ℕ) (i j k : ℕ) (part : Option Span) (span : Span) → IsSound a [] → part ≡ Some span → c ≡ Some i → Lent a [] c → d ≡ Some j → Lent a [] d
     → child ≡ Some k → Step a b [] (child ∷ []) → level_of b child ≡ both (level_of a c) (level_of a d)
-    → item span (level_of b child) end ≡ put_part (part_of part (meet_child (both (level_of a c)) (level_of a c) (level_of a d))) end
+    → item span (level_of b child) end ≡ put_piece (piece_of part (meet_child (both (level_of a c)) (level_of a c) (level_of a d))) end
 piece_some a b c d child i j k part span sound is is_c lent_c is_d lent_d there step level =
     unless_end-items (level_of b child) span (given_items a b child k step there)
-    ∙ ap (λ x. put_part (part_of (Some span) (unless_end x)) end) level
+    ∙ ap (λ x. put_piece (piece_of (Some span) (unless_end x)) end) level
     ∙ sym (piece_is a c d i j part span (both (level_of a c)) sound is is_c lent_c is_d lent_d)
 
 -- three levels glued in two steps

@@ -12,9 +12,9 @@ use Rattle.rx_level.specs.Store.{leads, owed}
 use Rattle.rx_level.specs.Step.{Owns, Step, level_of, between}
 use Rattle.rx_level.proofs.Turning.{kept_root}
 use Rattle.rx_tree.proofs.Joining.{length-join}
-use Rattle.rx_weld.specs.Apart.{AreApart}
+use Rattle.rx_weld.specs.Seamless.{IsSeamless}
 use Rattle.rx_weld.specs.Seam.{IsSeam}
-use Rattle.rx_and.proofs.Apart.{three_joined}
+use Rattle.rx_and.proofs.Pieces.{three_joined}
 
 -- a level of one item that is taken apart at an item
 lone : (w l : Level) (s : Span) (c r : Level) → w ≡ join_level l (item s c r) → length_of w ≡ 1 → w ≡ item s c end
@@ -46,7 +46,7 @@ placed a b d e f left right before after whole key top owns one first opened sec
     ∙ ap (λ x. join_level (level_of a left) (join_level x (level_of a right))) (sym alone)
 
 -- three levels of which the one in the middle is an item that has no seam with its neighbours
-pub three_placed : (s : Slab Node) (left middle right : Option ℕ) (key : ℕ) → middle ≡ Some key → AreApart (level_of s left) → AreApart (level_of s middle) → length_of (level_of s middle) ≡ 1
+pub three_placed : (s : Slab Node) (left middle right : Option ℕ) (key : ℕ) → middle ≡ Some key → IsSeamless (level_of s left) → IsSeamless (level_of s middle) → length_of (level_of s middle) ≡ 1
     → (IsSeam (level_of s left) (level_of s middle) → ⊥) → (IsSeam (level_of s middle) (level_of s right) → ⊥)
     → join_level (level_of s left) (join_level (level_of s (Some key)) (level_of s right)) ≡ glue (level_of s left) (glue (level_of s middle) (level_of s right))
 three_placed s left middle right key is apart apart_middle one first next =

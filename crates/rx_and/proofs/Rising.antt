@@ -12,7 +12,7 @@ use Rattle.rx_tree.specs.Tree.Level.{end, item}
 use Rattle.rx_tree.specs.Canonical.{BeginsFrom, ArePlaced}
 use Rattle.rx_tree.specs.Join.{join_level}
 use Rattle.rx_tree.specs.Weld.{EndsBy}
-use Rattle.rx_tree.specs.Meet.{part_of, put_part, meet_child, across}
+use Rattle.rx_tree.specs.Meet.{piece_of, put_piece, meet_child, across}
 use Rattle.rx_level.specs.declared.nodes.Node.{Node}
 use Rattle.rx_level.specs.Step.{Lent, level_of}
 use Rattle.rx_and.specs.Rising.{AreRising}
@@ -64,7 +64,7 @@ none_above s u (Some m) is low =
 pub across_below : (f : Level → Level) (c : Level) (s : Span) (e : End) (h : Level) → EndsBy e h → IsAtMost e s.lo → across f c s h ≡ end
 across_below f c s e end ends low = refl
 across_below f c s e (item t d rest) ends low =
-    ap (λ m. put_part (part_of m (meet_child f c d)) (across f c s rest)) (none_below s t (meet_span s t) refl (at_most-trans t.hi e s.lo ends.0 low))
+    ap (λ m. put_piece (piece_of m (meet_child f c d)) (across f c s rest)) (none_below s t (meet_span s t) refl (at_most-trans t.hi e s.lo ends.0 low))
     ∙ across_below f c s e rest ends.1 low
 
 -- nor with items that begin where it ends or later
@@ -72,20 +72,21 @@ pub across_above : (f : Level → Level) (c : Level) (s : Span) (e : End) (h : L
 across_above f c s e end rising begins low = refl
 across_above f c s e (item t d rest) rising begins low =
     let up : IsAtMost s.hi t.lo = at_most-trans s.hi e t.lo low begins in
-    ap (λ m. put_part (part_of m (meet_child f c d)) (across f c s rest)) (none_above s t (meet_span s t) refl up)
+    ap (λ m. put_piece (piece_of m (meet_child f c d)) (across f c s rest)) (none_above s t (meet_span s t) refl up)
     ∙ across_above f c s t.hi rest rising.3 rising.1 (at_most-trans s.hi t.lo t.hi up (below-at_most t.lo t.hi rising.0))
 
 -- What is kept of a side of a level has all in common with a span that the side has.
 pub record Keeps (a : Slab Node) (s : Span) (side kept : Option ℕ) : Type 0 where
   pub lent : Lent a [] kept
   pub rising : AreRising (level_of a kept)
+  pub placed : (ns : List Bool) → ArePlaced ns (level_of a side) → ArePlaced ns (level_of a kept)
   pub few : level_size (level_of a kept) ≤ level_size (level_of a side)
   pub same : (f : Level → Level) (c : Level) → across f c s (level_of a kept) ≡ across f c s (level_of a side)
 
 keeps_by : (a : Slab Node) (s : Span) (side : Option ℕ) (skipped : Bool) → Lent a [] side → AreRising (level_of a side)
     → (skipped ≡ true → (f : Level → Level) (c : Level) → across f c s (level_of a side) ≡ end) → Keeps a s side (cond skipped None side)
-keeps_by a s side true lent rising nothing = record { lent = tt; rising = tt; few = omega arith; same = λ f c. sym (nothing refl f c) }
-keeps_by a s side false lent rising nothing = record { lent = lent; rising = rising; few = omega arith; same = λ f c. refl }
+keeps_by a s side true lent rising nothing = record { lent = tt; rising = tt; placed = λ ns p. tt; few = omega arith; same = λ f c. sym (nothing refl f c) }
+keeps_by a s side false lent rising nothing = record { lent = lent; rising = rising; placed = λ ns p. p; few = omega arith; same = λ f c. refl }
 
 -- the parts of a level that is opened rise
 pub opened_risen : (whole l : Level) (t : Span) (d r : Level) → whole ≡ join_level l (item t d r) → AreRising whole → Risen l t d r

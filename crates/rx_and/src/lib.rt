@@ -1,9 +1,9 @@
 //! What two graphs of intervals have in common.
 #![tactic(auto)]
 
-mod gluing;
-mod graphs;
-mod levels;
+mod choosing;
+mod intersections;
+mod limiting;
 mod meeting;
 
-pub use graphs::and;
+pub use intersections::and;

@@ -1,0 +1,4 @@
+pub mod Before
+pub mod Staying
+pub mod Cuts
+pub mod Clipped

@@ -1,0 +1,6 @@
+//! Lent levels cut at the ends of a span.
+#![tactic(auto)]
+
+mod clipping;
+
+pub use clipping::{clip, reaches_one};
