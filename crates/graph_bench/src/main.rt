@@ -3,7 +3,7 @@
 
 mod faults;
 mod halves;
-mod points;
+mod numbered;
 mod steps;
 mod words;
 

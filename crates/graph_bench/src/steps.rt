@@ -4,7 +4,7 @@ ghost use Rattle.std.specs.Prelude.{◌≡◌, ℕ, ◌<◌, ◌≤◌, ◌-◌,
 ghost use Rattle.rx_graph.specs.Graph.{Steps, IsHeld, handle_count};
 
 use crate::faults::Fault;
-use crate::points::{LIMIT, Range, point, tell_end};
+use crate::numbered::{LIMIT, Range, point, tell_end};
 use rx_graph::{Arena, Handle};
 use rx_or::or;
 use std::alloc::{AllocError, Global};
