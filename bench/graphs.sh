@@ -1,34 +1,56 @@
 #!/usr/bin/env bash
-# Times graphs of growing size, by the tests of graph_tests that are named for it and by the program graph_bench:
-# seconds and peak memory of each, and what it tells of its steps. Usage: bench/graphs.sh
+# Times graphs of growing size, by the programs graph_cases (a case a line) and graph_bench: seconds and peak memory
+# of each, and what it tells. Usage: bench/graphs.sh
 set -eu
 top=$(cd "$(dirname "$0")/.." && pwd)
-tests=$top/crates/graph_tests/out/graph_tests_tests
-if [ ! -x "$tests" ]; then
-  echo "graph_tests: proving and building the tests, which can take half an hour" >&2
-  (cd "$top/crates/graph_tests" && rt test < /dev/null) > /dev/null 2>&1 || true
-fi
-for name in $("$tests" --list | grep -oE '([a-z]+_scale::|sharing::|and::six_parts)[a-z0-9_]*'); do
-  told=$(/usr/bin/env time -f "$name: %e s, %M KB" "$tests" "$name")
-  sed -n '/^test result/d; s/^./  &/p' <<< "$told"
-done
+scratch=$(mktemp -d)
+trap 'rm -rf "$scratch"' EXIT
 
-program=$top/crates/graph_bench/out/graph_bench
-if [ ! -x "$program" ]; then
-  echo "graph_bench: proving and building the program, which can take half an hour" >&2
-  log=$(mktemp)
-  (cd "$top/crates/graph_bench" && rt run -- one 1 < /dev/null) > "$log" 2>&1 || true
-  if [ ! -x "$program" ]; then
-    cat "$log" >&2
-    rm -f "$log"
-    echo "graph_bench: the program could not be built" >&2
+# Proves and builds a program where that isn't done: its name, and words that it is run with.
+build() {
+  local program=$1
+  shift
+  [ -x "$top/crates/$program/out/$program" ] && return
+  echo "$program: proving and building the program, which can take half an hour" >&2
+  (cd "$top/crates/$program" && rt run -- "$@" < /dev/null) > "$scratch/log" 2>&1 || true
+  if [ ! -x "$top/crates/$program/out/$program" ]; then
+    cat "$scratch/log" >&2
+    echo "$program: the program could not be built" >&2
     exit 1
   fi
-  rm -f "$log"
-fi
+}
+
+# Runs a program under time: what its line is named by, the program, its words.
+timed() {
+  local name=$1 program=$2
+  shift 2
+  local told
+  told=$(/usr/bin/env time -f "$name: %e s, %M KB" "$top/crates/$program/out/$program" "$@")
+  sed 's/^/  /' <<< "$told"
+}
+
+build graph_cases none
+while read -r line; do
+  echo "$line" > "$scratch/case"
+  timed "graph_cases" graph_cases "$scratch/case"
+done <<'CASES'
+n pair 0=1..125000 all ? size live
+n pair 0=1..250000 all ? size live
+n pair 0=1..500000 all ? size live
+n pair 0=1..1000000 all ? size live
+n and 0=0/1*100000+4 0=2/1*100000+4 1000000 ? size alone
+n and 0=0/3*100000+4 0=2/3*100000+4 1000000 ? size alone
+n and 0=0/1*100000+4 0=0/1*100000+4 1000000 ? size alone
+nn and 1=1..4000 0=1..60&1=1..60 1000000 ? size alone
+nn and 0=1..60&1=1..60 1=1..4000 1000000 ? size alone
+nn or 0=1..100000 1=5 1000000 ? size alone
+nnnnnn met 0=1..200&1=1..200&2=1..200&3=1..200&4=1..200&5=1..200 1000000 ? first
+nnnnnnnn pair 0=1..2&1=1..2&2=1..2&3=1..2&4=1..2&5=1..2&6=1..2&7=1..2 all ? size live
+CASES
+
+build graph_bench one 1
 for count in 125000 250000 500000 1000000; do
   for way in one halves; do
-    told=$(/usr/bin/env time -f "graph_bench $way $count: %e s, %M KB" "$program" "$way" "$count")
-    sed 's/^/  /' <<< "$told"
+    timed "graph_bench $way $count" graph_bench "$way" "$count"
   done
 done

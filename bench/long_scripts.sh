@@ -5,7 +5,7 @@ set -eu
 top=$(cd "$(dirname "$0")/.." && pwd)
 work=$top/bench/work
 mkdir -p "$work"
-"$top/yogfrid" select > /dev/null 2>&1 || true
+[ -x "$top/crates/yogfrid/out/yogfrid" ] || { echo "build the proved program first: (cd crates/yogfrid && rt run)" >&2; exit 1; }
 cd "$work"
 printf 'CREATE TABLE t (a int)\n' > one.sql
 printf 'a\n' > none.csv

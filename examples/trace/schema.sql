@@ -1,1 +1,0 @@
-CREATE TABLE t (a int NOT NULL, b int NOT NULL)
