@@ -5,9 +5,9 @@ use Rattle.std.specs.Str.{str_eq_ignore_ascii_case}
 use Rattle.rx_token.specs.declared.kinds.Token.{Token}
 use Rattle.rx_token.specs.declared.signs.TheConstants.{OPEN, PLUS, MINUS}
 use Rattle.rx_token.specs.Reserved.{is_word_kind, is_word_of}
-use Rattle.rx_reading.specs.Reading.{after_word, after_sign, word_at, name_at, text_at, past, more_at, gathered, is_text_kind}
+use Rattle.rx_reading.specs.Reading.{after_word, after_sign, word_at, name_at, text_at, past, more_at, gathered, is_text_kind, number_in, number_at}
 use Rattle.rx_reading.specs.declared.items.Separator.TheVariants.{Nothing}
-use Rattle.rx_reading.specs.Forms.{◌>>◌, Word, Sign, Name, Text}
+use Rattle.rx_reading.specs.Forms.{◌>>◌, Word, Sign, Name, Text, SpellsEach, AnyWord, Number}
 use Rattle.rx_reading.proofs.Steps.{stepped, then_gives, then_none, one_of, first_gives, second_gives, same_value}
 use Rattle.rx_reading.proofs.Spelled.{word_spelled, word_read, sign_spelled, sign_read, name_spelled, text_spelled, text_read, Read}
 use Rattle.rx_ddl.specs.declared.statements.Argument.{Argument}
@@ -15,25 +15,13 @@ use Rattle.rx_ddl.specs.declared.statements.Argument.TheVariants as argument
 use Rattle.rx_ddl.specs.declared.statements.Attribute.{Attribute}
 use Rattle.rx_ddl.specs.declared.statements.Attribute.TheVariants as attribute
 use Rattle.rx_ddl.specs.declared.statements.ColumnDefinition.{ColumnDefinition}
-use Rattle.rx_ddl.specs.Columns.{number_in, number_at, number_argument_at, text_argument_at, argument_at, arguments_of, arguments_at, mark_at, not_null_at, marked_at, past_text, past_word, past_number, past_signed, past_default, past_comment, other_at, character_set_at, collate_at, attribute_at, attributes_at, column_at}
-use Rattle.rx_ddl.specs.ColumnForms.{SpellsEach, AnyWord, Number, ArgumentForm, number, string, SpellsArgument, argument_value, ArgumentsForm, bare, between, SpellsArguments, arguments_value, DefaultForm, of_string, of_word, of_number, plus, minus, SpellsDefault, AttributeForm, unsigned, zerofill, not_null, null, auto_increment, comment, default_is, character_set, collate, SpellsAttribute, attribute_value, ColumnName, ColumnForm, SpellsColumn, column_value}
-use Rattle.rx_ddl.proofs.Each.{Shrinks, Within, one_shrinks, shrinks_within, then_shrinks, then_within, no_token_within, each_within, each_spelled, each_read}
-use Rattle.rx_ddl.proofs.Enclosed.{sign_shrinks, enclosed_spelled, enclosed_read, enclosed_within}
-use Rattle.rx_ddl.proofs.FirstTokens.{word_no_word, word_no_sign, sign_no_any_word, sign_no_text, sign_no_number, sign_no_sign, any_word_no_text, number_no_text, number_no_any_word, text_no_number, Ends, end_no_word, end_no_open, pair, any_word_spelled, any_word_read, number_spelled, number_read}
+use Rattle.rx_ddl.specs.Columns.{number_argument_at, text_argument_at, argument_at, arguments_of, arguments_at, mark_at, not_null_at, marked_at, past_text, past_word, past_number, past_signed, past_default, past_comment, other_at, character_set_at, collate_at, attribute_at, attributes_at, column_at}
+use Rattle.rx_ddl.specs.ColumnForms.{ArgumentForm, number, string, SpellsArgument, argument_value, ArgumentsForm, bare, between, SpellsArguments, arguments_value, DefaultForm, of_string, of_word, of_number, plus, minus, SpellsDefault, AttributeForm, unsigned, zerofill, not_null, null, auto_increment, comment, default_is, character_set, collate, SpellsAttribute, attribute_value, ColumnName, ColumnForm, SpellsColumn, column_value}
+use Rattle.rx_reading.proofs.Each.{Shrinks, Within, one_shrinks, shrinks_within, then_shrinks, then_within, no_token_within, each_within, each_spelled, each_read}
+use Rattle.rx_ddl.proofs.Enclosed.{enclosed_spelled, enclosed_read, enclosed_within}
+use Rattle.rx_reading.proofs.FirstTokens.{sign_shrinks, word_shrinks, any_word_shrinks, text_shrinks, number_shrinks, word_no_word, word_no_sign, sign_no_any_word, sign_no_text, sign_no_number, sign_no_sign, any_word_no_text, number_no_text, number_no_any_word, text_no_number, Ends, end_no_word, end_no_open, pair, any_word_spelled, any_word_read, number_spelled, number_read}
 
 -- how many tokens the forms take
-pub word_shrinks : (w : List ℕ) → Shrinks (Word w)
-word_shrinks w = one_shrinks (λ t. is_word_of w t ≡ true)
-
-pub any_word_shrinks : (w : List ℕ) → Shrinks (AnyWord w)
-any_word_shrinks w = one_shrinks (λ t. (is_word_kind t.kind ≡ true) × (t.text ≡ w))
-
-pub text_shrinks : (text : List ℕ) → Shrinks (Text text)
-text_shrinks text = one_shrinks (λ t. (is_text_kind t.kind ≡ true) × (t.text ≡ text))
-
-pub number_shrinks : (n : ℕ) → Shrinks (Number n)
-number_shrinks n = one_shrinks (λ t. number_in t.kind ≡ Some n)
-
 argument_shrinks : (a : ArgumentForm) → Shrinks (SpellsArgument a)
 argument_shrinks (number n) = number_shrinks n
 argument_shrinks (string text) = text_shrinks text

@@ -4,9 +4,9 @@ use Rattle.std.specs.Option.{option_and_then, option_or}
 use Rattle.std.specs.Str.{str_eq_ignore_ascii_case}
 use Rattle.rx_token.specs.declared.kinds.Token.{Token}
 use Rattle.rx_token.specs.declared.signs.TheConstants.{OPEN, CLOSE}
-use Rattle.rx_reading.specs.Reading.{after_word, after_sign, word_at, name_at, past, more_at, gathered, enclosed_at}
+use Rattle.rx_reading.specs.Reading.{after_word, after_sign, word_at, name_at, past, more_at, gathered, enclosed_at, number_at, after_key, direction_at}
 use Rattle.rx_reading.specs.declared.items.Separator.TheVariants.{Nothing}
-use Rattle.rx_reading.specs.Forms.{◌>>◌, Word, Sign, Name, Text, values}
+use Rattle.rx_reading.specs.Forms.{◌>>◌, Word, Sign, Name, Text, values, SpellsEach, AnyWord, Number, DirectionForm, unsaid, ascending, descending, SpellsDirection, is_descending, IndexWord, key, index, SpellsIndexWord}
 use Rattle.rx_reading.proofs.Steps.{stepped, then_gives, then_none, one_of, first_gives, second_gives, same_value}
 use Rattle.rx_reading.proofs.Spelled.{word_spelled, word_read, sign_spelled, sign_read, name_spelled, name_read, Read}
 use Rattle.rx_ddl.specs.declared.statements.KeyKind.{KeyKind}
@@ -15,14 +15,14 @@ use Rattle.rx_ddl.specs.declared.statements.KeyPart.{KeyPart}
 use Rattle.rx_ddl.specs.declared.statements.Method.{Method}
 use Rattle.rx_ddl.specs.declared.statements.Method.TheVariants.{Using, Comment}
 use Rattle.rx_ddl.specs.declared.statements.KeyDefinition.{KeyDefinition}
-use Rattle.rx_ddl.specs.Columns.{number_at, past_text, past_comment}
-use Rattle.rx_ddl.specs.Keys.{prefix_of, prefix_at, direction_of, direction_at, part_at, using_at, remark_at, method_at, methods_at, after_key, kind_mark_at, plain_mark_at, key_kind_at, key_name_at, key_at}
-use Rattle.rx_ddl.specs.ColumnForms.{SpellsEach, AnyWord, Number}
-use Rattle.rx_ddl.specs.KeyForms.{PrefixForm, whole, of_characters, SpellsPrefix, prefix_value, DirectionForm, unsaid, ascending, descending, SpellsDirection, is_descending, PartForm, SpellsPart, part_value, SpellsParts, MethodForm, using_word, remark, SpellsMethod, method_value, IndexWord, key, index, SpellsIndexWord, FrontForm, primary, unique, fulltext, spatial, plain, SpellsFront, front_kind, front_name, KeyForm, SpellsKey, key_value}
-use Rattle.rx_ddl.proofs.Each.{Shrinks, Within, one_shrinks, shrinks_within, then_shrinks, then_within, no_token_within, each_within, each_spelled, each_read}
-use Rattle.rx_ddl.proofs.Enclosed.{sign_shrinks, enclosed_spelled, enclosed_read, enclosed_within}
-use Rattle.rx_ddl.proofs.FirstTokens.{word_no_word, word_no_sign, Ends, end_no_word, end_no_open, pair, any_word_spelled, any_word_read, number_spelled, number_read}
-use Rattle.rx_ddl.proofs.ColumnLaws.{word_shrinks, any_word_shrinks, text_shrinks, number_shrinks, past_text_spelled, past_text_read}
+use Rattle.rx_ddl.specs.Columns.{past_text, past_comment}
+use Rattle.rx_ddl.specs.Keys.{prefix_of, prefix_at, part_at, using_at, remark_at, method_at, methods_at, kind_mark_at, plain_mark_at, key_kind_at, key_name_at, key_at}
+use Rattle.rx_ddl.specs.KeyForms.{PrefixForm, whole, of_characters, SpellsPrefix, prefix_value, PartForm, SpellsPart, part_value, SpellsParts, MethodForm, using_word, remark, SpellsMethod, method_value, FrontForm, primary, unique, fulltext, spatial, plain, SpellsFront, front_kind, front_name, KeyForm, SpellsKey, key_value}
+use Rattle.rx_reading.proofs.Each.{Shrinks, Within, one_shrinks, shrinks_within, then_shrinks, then_within, no_token_within, each_within, each_spelled, each_read}
+use Rattle.rx_reading.proofs.Choices.{direction_spelled, direction_read, direction_within, index_word_spelled, index_word_read, index_word_shrinks}
+use Rattle.rx_ddl.proofs.Enclosed.{enclosed_spelled, enclosed_read, enclosed_within}
+use Rattle.rx_reading.proofs.FirstTokens.{sign_shrinks, word_shrinks, any_word_shrinks, text_shrinks, number_shrinks, word_no_word, word_no_sign, Ends, end_no_word, end_no_open, pair, any_word_spelled, any_word_read, number_spelled, number_read}
+use Rattle.rx_ddl.proofs.ColumnLaws.{past_text_spelled, past_text_read}
 
 -- a prefix length
 abbrev length_step : ℕ × List Token → Option (Option ℕ × List Token)
@@ -55,29 +55,6 @@ prefix_within (of_characters n) =
     (then_within (Number n) (Sign CLOSE) (shrinks_within (Number n) (number_shrinks n)) (shrinks_within (Sign CLOSE) (sign_shrinks CLOSE)))
 
 -- ASC and DESC
-abbrev DirectionRead : List Token → Bool × List Token → Type 0
-DirectionRead ts x = Read SpellsDirection is_descending ts x
-
-direction_by : (ts : List Token) (o p : Option (List Token)) → after_word (codes "ASC") ts ≡ o → after_word (codes "DESC") ts ≡ p → DirectionRead ts (direction_of ts o p)
-direction_by ts None None asc desc = record { form = unsaid; spelled = refl; stands = refl }
-direction_by ts (Some rest) p asc desc = record { form = ascending; spelled = word_spelled (codes "ASC") ts rest asc; stands = refl }
-direction_by ts None (Some rest) asc desc = record { form = descending; spelled = word_spelled (codes "DESC") ts rest desc; stands = refl }
-
-direction_spelled : (ts : List Token) → DirectionRead ts (direction_at ts)
-direction_spelled ts = direction_by ts (after_word (codes "ASC") ts) (after_word (codes "DESC") ts) refl refl
-
-direction_read : (d : DirectionForm) (ts rest : List Token) → SpellsDirection d ts rest → Ends rest → direction_at ts ≡ (is_descending d, rest)
-direction_read unsaid ts rest s end =
-    subst (λ (us : List Token). direction_at us ≡ (false, rest)) (sym s) (ap (λ (o : Option (List Token)). direction_of rest o (after_word (codes "DESC") rest)) (end_no_word (codes "ASC") rest end) ∙ ap (direction_of rest None) (end_no_word (codes "DESC") rest end))
-direction_read ascending ts rest s end = ap (λ (o : Option (List Token)). direction_of ts o (after_word (codes "DESC") ts)) (word_read (codes "ASC") ts rest s)
-direction_read descending ts rest s end =
-    ap (λ (o : Option (List Token)). direction_of ts o (after_word (codes "DESC") ts)) (word_no_word (codes "DESC") (codes "ASC") refl ts rest s) ∙ ap (direction_of ts None) (word_read (codes "DESC") ts rest s)
-
-direction_within : (d : DirectionForm) → Within (SpellsDirection d)
-direction_within unsaid = no_token_within
-direction_within ascending = shrinks_within (Word (codes "ASC")) (word_shrinks (codes "ASC"))
-direction_within descending = shrinks_within (Word (codes "DESC")) (word_shrinks (codes "DESC"))
-
 direction_closed : (d : DirectionForm) (ts rest : List Token) → SpellsDirection d ts rest → Ends rest → after_sign OPEN ts ≡ None
 direction_closed unsaid ts rest s end = ap (after_sign OPEN) s ∙ end_no_open rest end
 direction_closed ascending ts rest s end = word_no_sign (codes "ASC") OPEN ts rest s
@@ -121,7 +98,7 @@ unfolding part_at
 part_read p ts rest (n, name_is, (c, chars_are, direction_is)) end =
     then_gives part_step (name_read p.column ts n name_is)
     (then_gives (chars_step p.column) (prefix_read p.prefix n c chars_are (direction_closed p.direction c rest direction_is end))
-    (ap (λ (d : Bool × List Token). Some (made_part p.column (prefix_value p.prefix) d)) (direction_read p.direction c rest direction_is end)))
+    (ap (λ (d : Bool × List Token). Some (made_part p.column (prefix_value p.prefix) d)) (direction_read p.direction c rest direction_is (end_no_word (codes "ASC") rest end) (end_no_word (codes "DESC") rest end))))
 
 part_shrinks : (p : PartForm) → Shrinks (SpellsPart p)
 part_shrinks p =
@@ -179,22 +156,6 @@ methods_spelled ts x e =
 methods_read : (list : List MethodForm) (ts rest : List Token) → SpellsEach SpellsMethod list ts rest → Ends rest → methods_at ts ≡ Some (pair (map method_value list) rest)
 methods_read list ts rest s end =
     ap (λ (m : List Method × List Token). Some (gathered [] m)) (each_read (past Nothing) method_at SpellsMethod method_value method_shrinks method_read list (length ts) ts rest s (omega arith) (no_method rest (λ word. end_no_word word rest end)))
-
--- KEY and INDEX
-abbrev IndexWordRead : List Token → List Token → Type 0
-IndexWordRead ts rest = (w : IndexWord) × SpellsIndexWord w ts rest
-
-index_word_spelled : (ts rest : List Token) → after_key ts ≡ Some rest → IndexWordRead ts rest
-index_word_spelled ts rest e =
-    ⊎_elim (λ f. (key, word_spelled (codes "KEY") ts rest f)) (λ f. (index, word_spelled (codes "INDEX") ts rest f)) (one_of (after_word (codes "KEY") ts) (after_word (codes "INDEX") ts) rest e)
-
-index_word_read : (w : IndexWord) (ts rest : List Token) → SpellsIndexWord w ts rest → after_key ts ≡ Some rest
-index_word_read key ts rest s = first_gives (after_word (codes "INDEX") ts) (word_read (codes "KEY") ts rest s)
-index_word_read index ts rest s = second_gives (word_no_word (codes "INDEX") (codes "KEY") refl ts rest s) (word_read (codes "INDEX") ts rest s)
-
-index_word_shrinks : (w : IndexWord) → Shrinks (SpellsIndexWord w)
-index_word_shrinks key = word_shrinks (codes "KEY")
-index_word_shrinks index = word_shrinks (codes "INDEX")
 
 -- what a key begins with, and its name
 record FrontRead (ts : List Token) (front : KeyKind) (x : List ℕ × List Token) : Type 0 where

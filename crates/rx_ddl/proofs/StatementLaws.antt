@@ -10,9 +10,9 @@ use Rattle.rx_token.specs.declared.kinds.Token.{Token}
 use Rattle.rx_token.specs.declared.signs.TheConstants.{COMMA, EQUAL, SEMICOLON}
 use Rattle.rx_token.specs.Reserved.{is_word_of}
 use Rattle.rx_token.specs.Scan.{token_list, bad_place}
-use Rattle.rx_reading.specs.Reading.{after_word, after_sign, word_at, name_at, is_end, past, more_at, gathered, items_at, enclosed_at, of_whole}
+use Rattle.rx_reading.specs.Reading.{after_key, after_word, after_sign, word_at, name_at, is_end, past, more_at, gathered, items_at, enclosed_at, of_whole}
 use Rattle.rx_reading.specs.declared.items.Separator.TheVariants.{Nothing, MaybeComma}
-use Rattle.rx_reading.specs.Forms.{◌>>◌, Sign, Name, values}
+use Rattle.rx_reading.specs.Forms.{◌>>◌, Sign, Name, values, SpellsEach, AnyWord}
 use Rattle.rx_reading.proofs.Steps.{stepped, then_gives, then_none, second_gives, same_value}
 use Rattle.rx_reading.proofs.Spelled.{word_spelled, word_read, sign_spelled, sign_read, name_spelled, name_read, Read}
 use Rattle.rx_ddl.specs.declared.statements.KeyKind.{KeyKind}
@@ -26,15 +26,15 @@ use Rattle.rx_ddl.specs.declared.statements.CreateTable.{CreateTable}
 use Rattle.rx_ddl.specs.declared.faults.CreateFault.{CreateFault}
 use Rattle.rx_ddl.specs.declared.faults.CreateFault.TheVariants.{NotInGrammar}
 use Rattle.rx_ddl.specs.Columns.{column_at}
-use Rattle.rx_ddl.specs.Keys.{after_key, kind_mark_at, key_kind_at, key_at}
+use Rattle.rx_ddl.specs.Keys.{kind_mark_at, key_kind_at, key_at}
 use Rattle.rx_ddl.specs.Options.{is_value_kind, value_at, option_at, options_at}
 use Rattle.rx_ddl.specs.Create.{definition_of, definition_at, is_column, after_create, create_at, create_form}
-use Rattle.rx_ddl.specs.ColumnForms.{SpellsEach, AnyWord, begins_key, ColumnName, ColumnForm, SpellsColumn}
+use Rattle.rx_ddl.specs.ColumnForms.{begins_key, ColumnName, ColumnForm, SpellsColumn}
 use Rattle.rx_ddl.specs.StatementForms.{DefinitionForm, column, key, SpellsDefinition, definition_value, OptionValue, Lead, bare, behind_comma, SpellsLead, OptionForm, SpellsOption, option_value, Ending, open_end, semicolon, SpellsEnding, StatementForm, SpellsStatement, statement_value, HasColumn, IsStatement, IsCreate, IsNoCreate}
-use Rattle.rx_ddl.proofs.Each.{Shrinks, Within, one_shrinks, shrinks_within, then_shrinks, then_within, within_then, no_token_within, each_within, each_spelled, each_read}
-use Rattle.rx_ddl.proofs.Enclosed.{sign_shrinks, enclosed_spelled, enclosed_read}
-use Rattle.rx_ddl.proofs.FirstTokens.{no_word_here, sign_no_any_word, sign_no_sign, any_word_no_sign, Ends, pair, any_word_spelled, any_word_read}
-use Rattle.rx_ddl.proofs.ColumnLaws.{any_word_shrinks, column_spelled, column_read, column_shrinks}
+use Rattle.rx_reading.proofs.Each.{Shrinks, Within, one_shrinks, shrinks_within, then_shrinks, then_within, within_then, no_token_within, each_within, each_spelled, each_read}
+use Rattle.rx_ddl.proofs.Enclosed.{enclosed_spelled, enclosed_read}
+use Rattle.rx_reading.proofs.FirstTokens.{sign_shrinks, any_word_shrinks, no_word_here, sign_no_any_word, sign_no_sign, any_word_no_sign, Ends, pair, any_word_spelled, any_word_read}
+use Rattle.rx_ddl.proofs.ColumnLaws.{column_spelled, column_read, column_shrinks}
 use Rattle.rx_ddl.proofs.KeyLaws.{key_spelled, key_read, key_shrinks}
 
 -- where no key begins

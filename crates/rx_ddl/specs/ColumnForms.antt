@@ -1,38 +1,16 @@
 -- The grammar of columns: which tokens spell each form, and what it stands for.
-use Rattle.std.specs.Prelude.{◌≡◌, ℕ, Bool, true, false, List, [], ◌∷◌, map, codes, Some}
+use Rattle.std.specs.Prelude.{◌≡◌, ℕ, Bool, true, false, List, [], ◌∷◌, map, codes}
 use Rattle.std.specs.List.{list_any}
 use Rattle.rx_token.specs.declared.kinds.Token.{Token}
-use Rattle.rx_token.specs.declared.signs.TheConstants.{OPEN, CLOSE, COMMA, PLUS, MINUS}
-use Rattle.rx_token.specs.Reserved.{is_word_kind, is_word_of}
+use Rattle.rx_token.specs.declared.signs.TheConstants.{PLUS, MINUS}
+use Rattle.rx_token.specs.Reserved.{is_word_of}
 use Rattle.rx_reading.specs.Reading.{is_name}
-use Rattle.rx_reading.specs.Forms.{Form, One, ◌>>◌, Word, Sign, Text, Listed, values, SpellsListed}
+use Rattle.rx_reading.specs.Forms.{Form, One, NoToken, ◌>>◌, Word, AnyWord, Number, Sign, Text, Listed, values, SpellsEach, SpellsEnclosed}
 use Rattle.rx_ddl.specs.declared.statements.Argument.{Argument}
 use Rattle.rx_ddl.specs.declared.statements.Argument.TheVariants as argument
 use Rattle.rx_ddl.specs.declared.statements.Attribute.{Attribute}
 use Rattle.rx_ddl.specs.declared.statements.Attribute.TheVariants as attribute
 use Rattle.rx_ddl.specs.declared.statements.ColumnDefinition.{ColumnDefinition}
-use Rattle.rx_ddl.specs.Columns.{number_in}
-
--- no token
-abbrev pub NoToken : Form
-NoToken = λ ts rest. ts ≡ rest
-
--- one form for each item, in order, with nothing between
-abbrev pub SpellsEach : {A : Type 0} → (A → Form) → List A → Form
-SpellsEach item [] = NoToken
-SpellsEach item (a ∷ others) = item a >> SpellsEach item others
-
--- "(" item {"," item} ")"
-abbrev pub SpellsEnclosed : {A : Type 0} → (A → Form) → Listed A → Form
-SpellsEnclosed item list = Sign OPEN >> SpellsListed (Sign COMMA) item list >> Sign CLOSE
-
--- this word as it is written, a reserved one too
-abbrev pub AnyWord : List ℕ → Form
-AnyWord word = One (λ t. (is_word_kind t.kind ≡ true) × (t.text ≡ word))
-
--- this number
-abbrev pub Number : ℕ → Form
-Number n = One (λ t. number_in t.kind ≡ Some n)
 
 -- arg := number | string
 pub data ArgumentForm : Type 0 where

@@ -2,29 +2,14 @@
 use Rattle.std.specs.Prelude.{ℕ, List, [], ◌∷◌, codes, Option, Some, None}
 use Rattle.std.specs.Option.{option_or}
 use Rattle.rx_token.specs.declared.kinds.Token.{Token}
-use Rattle.rx_token.specs.declared.kinds.TokenKind.{TokenKind}
-use Rattle.rx_token.specs.declared.kinds.TokenKind.TheVariants.{Word, Quoted, Number, Str, Sign}
 use Rattle.rx_token.specs.declared.signs.TheConstants.{OPEN, PLUS, MINUS}
-use Rattle.rx_reading.specs.Reading.{Reader, ◌>>=◌, after_word, after_sign, word_at, name_at, text_at, past, many_at, enclosed_at}
+use Rattle.rx_reading.specs.Reading.{Reader, ◌>>=◌, after_word, after_sign, word_at, name_at, text_at, number_at, past, many_at, enclosed_at}
 use Rattle.rx_reading.specs.declared.items.Separator.TheVariants.{Nothing}
 use Rattle.rx_ddl.specs.declared.statements.Argument.{Argument}
 use Rattle.rx_ddl.specs.declared.statements.Argument.TheVariants.{Number as Count, Text}
 use Rattle.rx_ddl.specs.declared.statements.Attribute.{Attribute}
 use Rattle.rx_ddl.specs.declared.statements.Attribute.TheVariants.{Unsigned, Zerofill, NotNull, Null, CharacterSet, Collate, Other}
 use Rattle.rx_ddl.specs.declared.statements.ColumnDefinition.{ColumnDefinition}
-
--- the number that a token is
-abbrev pub number_in : TokenKind → Option ℕ
-number_in Word = None
-number_in Quoted = None
-number_in (Number n) = Some n
-number_in Str = None
-number_in (Sign n) = None
-
--- a number
-abbrev pub number_at : Reader ℕ
-number_at [] = None
-number_at (t ∷ ts) = number_in t.kind >>= λ n. Some (n, ts)
 
 -- a number as an argument
 abbrev pub number_argument_at : Reader Argument

@@ -1,14 +1,13 @@
 -- The grammar of keys: which tokens spell each form, and what it stands for.
-use Rattle.std.specs.Prelude.{ℕ, Bool, true, false, List, map, codes, Option, Some, None}
+use Rattle.std.specs.Prelude.{ℕ, List, map, codes, Option, Some, None}
 use Rattle.rx_token.specs.declared.signs.TheConstants.{OPEN, CLOSE}
-use Rattle.rx_reading.specs.Forms.{Form, ◌>>◌, Word, Sign, Name, Text, Listed, values}
+use Rattle.rx_reading.specs.Forms.{Form, NoToken, ◌>>◌, Word, AnyWord, Number, Sign, Name, Text, Listed, values, DirectionForm, SpellsDirection, is_descending, IndexWord, SpellsIndexWord, SpellsEach, SpellsEnclosed}
 use Rattle.rx_ddl.specs.declared.statements.KeyKind.{KeyKind}
 use Rattle.rx_ddl.specs.declared.statements.KeyKind.TheVariants.{Primary, Unique, Plain, Fulltext, Spatial}
 use Rattle.rx_ddl.specs.declared.statements.KeyPart.{KeyPart}
 use Rattle.rx_ddl.specs.declared.statements.Method.{Method}
 use Rattle.rx_ddl.specs.declared.statements.Method.TheVariants.{Using, Comment}
 use Rattle.rx_ddl.specs.declared.statements.KeyDefinition.{KeyDefinition}
-use Rattle.rx_ddl.specs.ColumnForms.{NoToken, SpellsEach, SpellsEnclosed, AnyWord, Number}
 
 -- ["(" number ")"]
 pub data PrefixForm : Type 0 where
@@ -24,24 +23,6 @@ SpellsPrefix (of_characters n) = Sign OPEN >> Number n >> Sign CLOSE
 abbrev pub prefix_value : PrefixForm → Option ℕ
 prefix_value whole = None
 prefix_value (of_characters n) = Some n
-
--- [ASC|DESC]
-pub data DirectionForm : Type 0 where
-  unsaid : DirectionForm
-  ascending : DirectionForm
-  descending : DirectionForm
-
--- the tokens of a direction
-abbrev pub SpellsDirection : DirectionForm → Form
-SpellsDirection unsaid = NoToken
-SpellsDirection ascending = Word (codes "ASC")
-SpellsDirection descending = Word (codes "DESC")
-
--- whether the part falls
-abbrev pub is_descending : DirectionForm → Bool
-is_descending unsaid = false
-is_descending ascending = false
-is_descending descending = true
 
 -- name ["(" number ")"] [ASC|DESC]
 pub record PartForm : Type 0 where
@@ -75,16 +56,6 @@ SpellsMethod (remark text) = Word (codes "COMMENT") >> Text text
 abbrev pub method_value : MethodForm → Method
 method_value (using_word word) = Using word
 method_value (remark text) = Comment
-
--- KEY|INDEX
-pub data IndexWord : Type 0 where
-  key : IndexWord
-  index : IndexWord
-
--- the tokens of such a word
-abbrev pub SpellsIndexWord : IndexWord → Form
-SpellsIndexWord key = Word (codes "KEY")
-SpellsIndexWord index = Word (codes "INDEX")
 
 -- PRIMARY KEY | [UNIQUE|FULLTEXT|SPATIAL] (KEY|INDEX) name
 pub data FrontForm : Type 0 where

@@ -3,7 +3,7 @@ use Rattle.std.specs.Prelude.{ℕ, Bool, true, false, List, codes, Option, Some,
 use Rattle.std.specs.Option.{option_or}
 use Rattle.rx_token.specs.declared.kinds.Token.{Token}
 use Rattle.rx_token.specs.declared.signs.TheConstants.{OPEN, CLOSE}
-use Rattle.rx_reading.specs.Reading.{Reader, ◌>>=◌, after_word, after_sign, word_at, name_at, past, many_at, enclosed_at}
+use Rattle.rx_reading.specs.Reading.{Reader, ◌>>=◌, after_word, after_sign, word_at, name_at, number_at, after_key, direction_at, past, many_at, enclosed_at}
 use Rattle.rx_reading.specs.declared.items.Separator.TheVariants.{Nothing}
 use Rattle.rx_ddl.specs.declared.statements.KeyKind.{KeyKind}
 use Rattle.rx_ddl.specs.declared.statements.KeyKind.TheVariants.{Primary, Unique, Plain, Fulltext, Spatial}
@@ -11,7 +11,7 @@ use Rattle.rx_ddl.specs.declared.statements.KeyPart.{KeyPart}
 use Rattle.rx_ddl.specs.declared.statements.Method.{Method}
 use Rattle.rx_ddl.specs.declared.statements.Method.TheVariants.{Using, Comment}
 use Rattle.rx_ddl.specs.declared.statements.KeyDefinition.{KeyDefinition}
-use Rattle.rx_ddl.specs.Columns.{number_at, past_comment}
+use Rattle.rx_ddl.specs.Columns.{past_comment}
 
 -- the prefix length behind a parenthesis, and none where there isn't one
 abbrev pub prefix_of : List Token → Option (List Token) → Option (Option ℕ × List Token)
@@ -21,16 +21,6 @@ prefix_of ts (Some behind) = number_at behind >>= λ n. after_sign CLOSE n.1 >>=
 -- ["(" number ")"]
 abbrev pub prefix_at : Reader (Option ℕ)
 prefix_at ts = prefix_of ts (after_sign OPEN ts)
-
--- whether DESC stands there, by what follows ASC and DESC
-abbrev pub direction_of : List Token → Option (List Token) → Option (List Token) → Bool × List Token
-direction_of ts None None = (false, ts)
-direction_of ts (Some rest) descending = (false, rest)
-direction_of ts None (Some rest) = (true, rest)
-
--- [ASC|DESC]
-abbrev pub direction_at : List Token → Bool × List Token
-direction_at ts = direction_of ts (after_word (codes "ASC") ts) (after_word (codes "DESC") ts)
 
 -- name ["(" number ")"] [ASC|DESC]
 unfoldable pub part_at : Reader KeyPart
@@ -53,10 +43,6 @@ method_at ts = option_or (using_at ts) (remark_at ts)
 -- {USING word | COMMENT string}
 abbrev pub methods_at : Reader (List Method)
 methods_at ts = many_at (past Nothing) method_at ts
-
--- KEY | INDEX
-abbrev pub after_key : List Token → Option (List Token)
-after_key ts = option_or (after_word (codes "KEY") ts) (after_word (codes "INDEX") ts)
 
 -- a word that a key of some kind begins with
 abbrev pub kind_mark_at : List ℕ → KeyKind → Reader KeyKind

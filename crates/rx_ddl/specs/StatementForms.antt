@@ -4,14 +4,14 @@ use Rattle.std.specs.List.{list_any}
 use Rattle.rx_token.specs.declared.kinds.Token.{Token}
 use Rattle.rx_token.specs.declared.signs.TheConstants.{COMMA, EQUAL, SEMICOLON}
 use Rattle.rx_token.specs.Scan.{token_list, bad_place}
-use Rattle.rx_reading.specs.Forms.{Form, One, ◌>>◌, Word, Sign, Name, Listed, values}
+use Rattle.rx_reading.specs.Forms.{Form, One, NoToken, ◌>>◌, Word, AnyWord, Sign, Name, Listed, values, SpellsEach, SpellsEnclosed}
 use Rattle.rx_ddl.specs.declared.statements.CreateDefinition.{CreateDefinition}
 use Rattle.rx_ddl.specs.declared.statements.CreateDefinition.TheVariants.{Column, Key}
 use Rattle.rx_ddl.specs.declared.statements.TableOption.{TableOption}
 use Rattle.rx_ddl.specs.declared.statements.CreateTable.{CreateTable}
 use Rattle.rx_ddl.specs.Create.{is_column}
 use Rattle.rx_ddl.specs.Options.{is_value_kind}
-use Rattle.rx_ddl.specs.ColumnForms.{NoToken, SpellsEach, SpellsEnclosed, AnyWord, ColumnForm, SpellsColumn, column_value}
+use Rattle.rx_ddl.specs.ColumnForms.{ColumnForm, SpellsColumn, column_value}
 use Rattle.rx_ddl.specs.KeyForms.{KeyForm, SpellsKey, key_value}
 
 -- item := column | key

@@ -2,10 +2,9 @@ ghost use Rattle.std.specs.Prelude.{◌≡◌, Some, IfOk};
 ghost use Rattle.rx_reading.specs.Reading.{Passes, Reads, ReadsMaybe};
 ghost use Rattle.rx_ddl.specs.Columns.{mark_at, not_null_at, marked_at, past_text, past_word, past_number, past_signed, past_default, past_comment, other_at, character_set_at, collate_at, attribute_at, attributes_at};
 
-use crate::columns::number_at;
 use crate::statements::{Attribute, AttributeList};
 use rx_reading::{
-    Item, Read, Reading, Separator, after_sign, after_word, many_at, text_at, word_at,
+    Item, Read, Reading, Separator, after_sign, after_word, many_at, number_at, text_at, word_at,
 };
 use rx_token::{Token, signs};
 use rx_value::Bytes;

@@ -1,35 +1,15 @@
-ghost use Rattle.std.specs.Prelude.{◌≡◌, IfOk};
+ghost use Rattle.std.specs.Prelude.{IfOk};
 ghost use Rattle.rx_reading.specs.Reading.{Reads, ReadsMaybe};
-ghost use Rattle.rx_ddl.specs.Columns.{number_in, number_at, argument_at, arguments_at, column_at};
+ghost use Rattle.rx_ddl.specs.Columns.{argument_at, arguments_at, column_at};
 
 use crate::attributes::attributes_at;
 use crate::statements::{Argument, ArgumentList, ColumnDefinition};
-use rx_reading::{Item, Read, Reading, after_sign, enclosed_at, name_at, text_at, word_at};
-use rx_token::{Token, TokenKind, signs};
+use rx_reading::{
+    Item, Read, Reading, after_sign, enclosed_at, name_at, number_at, text_at, word_at,
+};
+use rx_token::{Token, signs};
 use rx_value::Bytes;
 use std::alloc::Global;
-
-fn number_in(kind: TokenKind) -> Option<u128>
-    ensures { result ≡ number_in kind }
-{
-    match kind {
-        TokenKind::Number(n) => Some(n),
-        _ => None,
-    }
-}
-
-/// A number, and the tokens behind it.
-pub(crate) fn number_at<'a>(tokens: &'a [Token]) -> Option<Read<'a, u128>>
-    ensures { Reads number_at tokens.now result }
-{
-    let [token, rest @ ..] = tokens else {
-        return None;
-    };
-    let Some(value) = number_in(token.kind) else {
-        return None;
-    };
-    Some(Read { value, rest })
-}
 
 /// Reads an argument of a type.
 struct Arguments;

@@ -1,12 +1,12 @@
 ghost use Rattle.std.specs.Prelude.{◌≡◌, ◌≤◌, length, Some, IfOk};
-ghost use Rattle.rx_reading.specs.Reading.{Passes, Reads, ReadsAs, ReadsMaybe, enclosed_at};
-ghost use Rattle.rx_ddl.specs.Keys.{prefix_at, direction_at, part_at, using_at, method_at, methods_at, after_key, kind_mark_at, plain_mark_at, key_kind_at, key_name_at, key_at};
+ghost use Rattle.rx_reading.specs.Reading.{Reads, ReadsAs, ReadsMaybe, enclosed_at};
+ghost use Rattle.rx_ddl.specs.Keys.{prefix_at, part_at, using_at, method_at, methods_at, kind_mark_at, plain_mark_at, key_kind_at, key_name_at, key_at};
 
 use crate::attributes::past_comment;
-use crate::columns::number_at;
 use crate::statements::{KeyDefinition, KeyKind, KeyPart, Method, MethodList};
 use rx_reading::{
-    Item, Read, Reading, Separator, after_sign, after_word, enclosed_at, many_at, name_at, word_at,
+    Item, Read, Reading, Separator, after_key, after_sign, after_word, direction_at, enclosed_at,
+    many_at, name_at, number_at, word_at,
 };
 use rx_token::{Token, signs};
 use rx_value::Bytes;
@@ -32,23 +32,6 @@ fn prefix_at<'a>(tokens: &'a [Token]) -> Option<Read<'a, Option<u128>>>
         value: Some(number.value),
         rest,
     })
-}
-
-/// Whether DESC stands, and the tokens behind ASC or DESC.
-fn direction_at<'a>(tokens: &'a [Token]) -> Read<'a, bool>
-    ensures value { (result.value, result.rest.now) ≡ direction_at tokens.now }
-    ensures within { length result.rest.now ≤ length tokens.now }
-{
-    if let Some(rest) = after_word(tokens, b"ASC") {
-        return Read { value: false, rest };
-    }
-    match after_word(tokens, b"DESC") {
-        Some(rest) => Read { value: true, rest },
-        None => Read {
-            value: false,
-            rest: tokens,
-        },
-    }
 }
 
 /// A part of a key, and the tokens behind it.
@@ -129,15 +112,6 @@ fn methods_at<'a>(alloc: Global, tokens: &'a [Token]) -> Result<Read<'a, MethodL
     ensures { IfOk result (λ read. ReadsMaybe methods_at tokens.now (Some read)) }
 {
     many_at(alloc, Separator::Nothing, &Methods, tokens)
-}
-
-fn after_key(tokens: &[Token]) -> Option<&[Token]>
-    ensures { Passes after_key tokens.now result }
-{
-    if let Some(rest) = after_word(tokens, b"KEY") {
-        return Some(rest);
-    }
-    after_word(tokens, b"INDEX")
 }
 
 fn kind_mark_at<'a>(tokens: &'a [Token], word: &[u8], kind: KeyKind) -> Option<Read<'a, KeyKind>>

@@ -1,5 +1,8 @@
+pub mod Choices
+pub mod Each
 pub mod Enclosed
 pub mod Farther
+pub mod FirstTokens
 pub mod Going
 pub mod Spelled
 pub mod Steps

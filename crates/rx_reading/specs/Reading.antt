@@ -1,5 +1,5 @@
 -- Reading tokens from left to right.
-use Rattle.std.specs.Prelude.{◌≡◌, ◌<◌, ◌≤◌, ℕ, zero, suc, Bool, true, false, not, List, [], ◌∷◌, ◌++◌, length, Option, Some, None, IfSome, ◌==◌, if◌then◌else◌}
+use Rattle.std.specs.Prelude.{◌≡◌, ◌<◌, ◌≤◌, ℕ, zero, suc, Bool, true, false, not, List, [], ◌∷◌, ◌++◌, length, codes, Option, Some, None, IfSome, ◌==◌, if◌then◌else◌}
 use Rattle.std.specs.Option.{option_and_then, option_map, option_or}
 use Rattle.std.specs.Borrow.{Bor}
 use Rattle.rx_token.specs.declared.kinds.Token.{Token}
@@ -90,6 +90,33 @@ is_text_kind (Sign n) = false
 abbrev pub text_at : Reader (List ℕ)
 text_at [] = None
 text_at (t ∷ ts) = if is_text_kind t.kind then Some (t.text, ts) else None
+
+-- the number that a token is
+abbrev pub number_in : TokenKind → Option ℕ
+number_in Word = None
+number_in Quoted = None
+number_in (Number n) = Some n
+number_in Str = None
+number_in (Sign n) = None
+
+-- a number
+abbrev pub number_at : Reader ℕ
+number_at [] = None
+number_at (t ∷ ts) = number_in t.kind >>= λ n. Some (n, ts)
+
+-- KEY | INDEX
+abbrev pub after_key : List Token → Option (List Token)
+after_key ts = option_or (after_word (codes "KEY") ts) (after_word (codes "INDEX") ts)
+
+-- whether DESC stands there, by what follows ASC and DESC
+abbrev pub direction_of : List Token → Option (List Token) → Option (List Token) → Bool × List Token
+direction_of ts None None = (false, ts)
+direction_of ts (Some rest) descending = (false, rest)
+direction_of ts None (Some rest) = (true, rest)
+
+-- [ASC|DESC]
+abbrev pub direction_at : List Token → Bool × List Token
+direction_at ts = direction_of ts (after_word (codes "ASC") ts) (after_word (codes "DESC") ts)
 
 -- nothing comes any more, or one semicolon
 abbrev pub is_end : List Token → Bool

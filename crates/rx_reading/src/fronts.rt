@@ -1,5 +1,5 @@
-ghost use Rattle.std.specs.Prelude.{◌≡◌};
-ghost use Rattle.rx_reading.specs.Reading.{Passes, ReadsAs, after_word, is_sign_kind, after_sign, is_text_kind, is_name, name_at, text_at, word_at, is_end};
+ghost use Rattle.std.specs.Prelude.{◌≡◌, ◌≤◌, length};
+ghost use Rattle.rx_reading.specs.Reading.{Passes, Reads, ReadsAs, after_word, is_sign_kind, after_sign, is_text_kind, is_name, name_at, text_at, word_at, number_in, number_at, after_key, direction_at, is_end};
 
 use crate::read::Read;
 use rx_token::{Token, TokenKind, is_reserved, is_word, signs};
@@ -103,6 +103,55 @@ pub fn text_at<'a>(tokens: &'a [Token]) -> Option<Read<'a, &'a [u8]>>
         });
     }
     None
+}
+
+fn number_in(kind: TokenKind) -> Option<u128>
+    ensures { result ≡ number_in kind }
+{
+    match kind {
+        TokenKind::Number(n) => Some(n),
+        _ => None,
+    }
+}
+
+/// A number at the front, and the tokens behind it.
+pub fn number_at<'a>(tokens: &'a [Token]) -> Option<Read<'a, u128>>
+    ensures { Reads number_at tokens.now result }
+{
+    let [token, rest @ ..] = tokens else {
+        return None;
+    };
+    let Some(value) = number_in(token.kind) else {
+        return None;
+    };
+    Some(Read { value, rest })
+}
+
+/// The tokens behind KEY or INDEX.
+pub fn after_key(tokens: &[Token]) -> Option<&[Token]>
+    ensures { Passes after_key tokens.now result }
+{
+    if let Some(rest) = after_word(tokens, b"KEY") {
+        return Some(rest);
+    }
+    after_word(tokens, b"INDEX")
+}
+
+/// Whether DESC stands, and the tokens behind ASC or DESC.
+pub fn direction_at<'a>(tokens: &'a [Token]) -> Read<'a, bool>
+    ensures value { (result.value, result.rest.now) ≡ direction_at tokens.now }
+    ensures within { length result.rest.now ≤ length tokens.now }
+{
+    if let Some(rest) = after_word(tokens, b"ASC") {
+        return Read { value: false, rest };
+    }
+    match after_word(tokens, b"DESC") {
+        Some(rest) => Read { value: true, rest },
+        None => Read {
+            value: false,
+            rest: tokens,
+        },
+    }
 }
 
 /// Whether nothing comes any more, or one semicolon.

@@ -9,7 +9,7 @@ use Rattle.rx_token.specs.declared.signs.TheConstants.{COMMA}
 use Rattle.rx_token.specs.Reserved.{is_reserved}
 use Rattle.rx_token.specs.Scan.{token_list}
 use Rattle.rx_reading.specs.Reading.{is_name}
-use Rattle.rx_reading.specs.Forms.{One, Name, Listed, last, before, values, SpellsListed}
+use Rattle.rx_reading.specs.Forms.{One, Name, Listed, last, before, values, SpellsListed, IndexWord, key, index, SpellsIndexWord}
 use Rattle.rx_reading.specs.Forms as form
 use Rattle.rx_ddl.specs.declared.statements.KeyDefinition.{KeyDefinition}
 use Rattle.rx_ddl.specs.declared.statements.CreateDefinition.{CreateDefinition}
@@ -17,11 +17,11 @@ use Rattle.rx_ddl.specs.declared.statements.CreateDefinition.TheVariants.{Column
 use Rattle.rx_ddl.specs.declared.statements.CreateTable.{CreateTable}
 use Rattle.rx_ddl.specs.Canonical.{IsName}
 use Rattle.rx_ddl.specs.ColumnForms.{ColumnName}
-use Rattle.rx_ddl.specs.KeyForms.{PartForm, part_value, IndexWord, key, index, SpellsIndexWord, FrontForm, primary, unique, fulltext, spatial, plain, SpellsFront, front_name, KeyForm, SpellsKey, key_value}
+use Rattle.rx_ddl.specs.KeyForms.{PartForm, part_value, FrontForm, primary, unique, fulltext, spatial, plain, SpellsFront, front_name, KeyForm, SpellsKey, key_value}
 use Rattle.rx_ddl.specs.StatementForms.{DefinitionForm, SpellsDefinition, definition_value, IsCreate}
 use Rattle.rx_ddl.specs.StatementForms as item
 use Rattle.rx_ddl.specs.Create.{is_column, create_form}
-use Rattle.rx_ddl.proofs.Each.{Tail, tail_of}
+use Rattle.rx_reading.proofs.Each.{Tail, tail_of}
 use Rattle.rx_ddl.proofs.StatementLaws.{definition_shrinks, form_spelled}
 use Rattle.rx_schema.proofs.Tokens.{IsToken, IsNamed, tokens_named}
 

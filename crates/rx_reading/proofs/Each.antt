@@ -3,9 +3,8 @@ use Rattle.std.proofs.Common.{◌≡◌, ℕ, zero, suc, ◌+◌, ◌<◌, ◌�
 use Rattle.std.specs.Option.{option_and_then}
 use Rattle.rx_token.specs.declared.kinds.Token.{Token}
 use Rattle.rx_reading.specs.Reading.{Reader, more_at, next_of, items_at}
-use Rattle.rx_reading.specs.Forms.{Form, One, ◌>>◌, Listed, last, before, values, SpellsListed}
+use Rattle.rx_reading.specs.Forms.{Form, One, NoToken, ◌>>◌, Listed, last, before, values, SpellsEach, SpellsListed}
 use Rattle.rx_reading.proofs.Spelled.{Read}
-use Rattle.rx_ddl.specs.ColumnForms.{NoToken, SpellsEach}
 
 -- what is left is the end of the tokens, and all of them or less
 pub record Tail (ts rest : List Token) : Type 0 where

@@ -10,11 +10,26 @@ use Rattle.rx_token.specs.declared.kinds.TokenKind.{TokenKind}
 use Rattle.rx_token.specs.declared.kinds.TokenKind.TheVariants as k
 use Rattle.rx_token.specs.declared.signs.TheConstants.{OPEN, CLOSE, COMMA}
 use Rattle.rx_token.specs.Reserved.{is_word_kind, is_word_of}
-use Rattle.rx_reading.specs.Reading.{is_sign_kind, is_text_kind, after_word, after_sign, word_at, text_at}
-use Rattle.rx_reading.specs.Forms.{Word, Sign, Text}
+use Rattle.rx_reading.specs.Reading.{is_sign_kind, is_text_kind, after_word, after_sign, word_at, text_at, number_in, number_at}
+use Rattle.rx_reading.specs.Forms.{Word, AnyWord, Number, Sign, Text}
+use Rattle.rx_reading.proofs.Each.{Shrinks, one_shrinks}
 use Rattle.rx_reading.proofs.Steps.{stepped, then_gives, same_value}
-use Rattle.rx_ddl.specs.Columns.{number_in, number_at}
-use Rattle.rx_ddl.specs.ColumnForms.{AnyWord, Number}
+
+-- how many tokens the forms take
+pub word_shrinks : (w : List ℕ) → Shrinks (Word w)
+word_shrinks w = one_shrinks (λ t. is_word_of w t ≡ true)
+
+pub any_word_shrinks : (w : List ℕ) → Shrinks (AnyWord w)
+any_word_shrinks w = one_shrinks (λ t. (is_word_kind t.kind ≡ true) × (t.text ≡ w))
+
+pub text_shrinks : (text : List ℕ) → Shrinks (Text text)
+text_shrinks text = one_shrinks (λ t. (is_text_kind t.kind ≡ true) × (t.text ≡ text))
+
+pub number_shrinks : (n : ℕ) → Shrinks (Number n)
+number_shrinks n = one_shrinks (λ t. number_in t.kind ≡ Some n)
+
+pub sign_shrinks : (n : ℕ) → Shrinks (Sign n)
+sign_shrinks n = one_shrinks (λ t. is_sign_kind n t.kind ≡ true)
 
 -- words that are one without case
 same_word : (x v w : List ℕ) → str_eq_ignore_ascii_case x v ≡ true → str_eq_ignore_ascii_case x w ≡ str_eq_ignore_ascii_case v w
@@ -119,7 +134,7 @@ no_any_word t ts e = ap (λ (b : Bool). cond b (Some (t.text, ts)) None) e
 no_text_here : (t : Token) (ts : List Token) → is_text_kind t.kind ≡ false → text_at (t ∷ ts) ≡ None
 no_text_here t ts e = ap (λ (b : Bool). cond b (Some (t.text, ts)) None) e
 
-no_number_here : (t : Token) (ts : List Token) → number_in t.kind ≡ None → number_at (t ∷ ts) ≡ None
+pub no_number_here : (t : Token) (ts : List Token) → number_in t.kind ≡ None → number_at (t ∷ ts) ≡ None
 no_number_here t ts e = ap (option_and_then (λ (n : ℕ). Some (n, ts))) e
 
 -- the same of spelled forms
