@@ -4,5 +4,7 @@
 mod settings;
 mod statements;
 
-pub use settings::Settings;
-pub use statements::{Numbered, Query, Script, Setting, Statement};
+pub use settings::{Settings, apply};
+pub use statements::{
+    By, Item, ItemList, Numbered, Order, OrderList, Script, Select, Setting, SettingList, Statement,
+};

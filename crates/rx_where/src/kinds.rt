@@ -8,7 +8,7 @@ use rx_value::{Bytes, ColType, Column, Key, Value, same_name};
 
 /// What the values of a side of a test are.
 #[derive(Clone, Copy, Debug, PartialEq, Eq)]
-pub(crate) enum Kind {
+pub enum Kind {
     Whole,
     Text,
 }
@@ -33,7 +33,8 @@ fn value_kind(value: &Value) -> Option<Kind>
     }
 }
 
-fn column_kind(columns: &[Column], name: &[u8]) -> Option<Kind>
+/// The kind of the first column of a name.
+pub fn column_kind(columns: &[Column], name: &[u8]) -> Option<Kind>
     ensures { result ≡ column_kind columns.now name.now }
 {
     for column in columns {
@@ -88,7 +89,7 @@ fn any_row_differs(columns: &[Column], names: &[Bytes], list: &[Key]) -> bool
 
 /// Whether a test of the condition has sides of two kinds, or is LIKE on a column of integers.
 #[cycle(mismatches)]
-pub(crate) fn mismatches(columns: &[Column], raw: &RawCond) -> bool
+pub fn mismatches(columns: &[Column], raw: &RawCond) -> bool
     ensures { result ≡ mismatches columns.now (raw_tree_of raw.now) }
 {
     match raw {

@@ -11,5 +11,7 @@ mod rows;
 mod single;
 
 pub use conditions::{ParseFault, one_condition, parse};
+pub use kinds::{Kind, column_kind, mismatches};
+pub use names::{first_unknown, if_unknown, number, unknown_name};
 pub use raw::{RawCond, RawOperand};
-pub use resolving::{ResolveFault, resolve};
+pub use resolving::{ResolveFault, resolve, resolved};

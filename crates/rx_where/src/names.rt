@@ -19,7 +19,7 @@ fn place_of(columns: &[Column], name: &[u8]) -> Option<usize>
 }
 
 /// The number of the first column of a name, 0 where there is none.
-pub(crate) fn number(columns: &[Column], name: &[u8]) -> u32
+pub fn number(columns: &[Column], name: &[u8]) -> u32
     requires { length columns.now ≤ most_columns }
     ensures { result ≡ number columns.now name.now }
 {
@@ -30,7 +30,7 @@ pub(crate) fn number(columns: &[Column], name: &[u8]) -> u32
 }
 
 /// The name, where it is no column.
-fn if_unknown<'a>(columns: &[Column], name: &'a Bytes) -> Option<&'a [u8]>
+pub fn if_unknown<'a>(columns: &[Column], name: &'a Bytes) -> Option<&'a [u8]>
     ensures { option_map (λ x. x.now) result ≡ first_unknown columns.now (name.now ∷ []) }
 {
     match place_of(columns, name.as_slice()) {
@@ -48,7 +48,8 @@ fn unknown_operand<'a>(columns: &[Column], operand: &'a RawOperand) -> Option<&'
     }
 }
 
-fn first_unknown<'a>(columns: &[Column], names: &'a [Bytes]) -> Option<&'a [u8]>
+/// The first of these names that is no column.
+pub fn first_unknown<'a>(columns: &[Column], names: &'a [Bytes]) -> Option<&'a [u8]>
     ensures { option_map (λ x. x.now) result ≡ first_unknown columns.now names.now }
 {
     for name in names {
@@ -62,7 +63,7 @@ fn first_unknown<'a>(columns: &[Column], names: &'a [Bytes]) -> Option<&'a [u8]>
 /// The first name of a condition, in the order of its text, that is no column.
 #[cycle(unknown)]
 #[tactic(auto, using(crate::proofs::Lists::unknown_of_both))]
-pub(crate) fn unknown_name<'a>(columns: &[Column], raw: &'a RawCond) -> Option<&'a [u8]>
+pub fn unknown_name<'a>(columns: &[Column], raw: &'a RawCond) -> Option<&'a [u8]>
     ensures { option_map (λ x. x.now) result ≡ first_unknown columns.now (names_of (raw_tree_of raw.now)) }
 {
     match raw {

@@ -82,9 +82,9 @@ fn numbers(alloc: Global, columns: &[Column], names: &[Bytes]) -> Result<NumberL
     Ok(numbers)
 }
 
-// The condition with the number of its column for each name.
+/// The condition with the number of its column for each name, 0 for a name that is no column. The error is want of memory.
 #[cycle(resolved)]
-fn resolved(alloc: Global, columns: &[Column], raw: &RawCond) -> Result<Cond, AllocError>
+pub fn resolved(alloc: Global, columns: &[Column], raw: &RawCond) -> Result<Cond, AllocError>
     requires { length columns.now ≤ most_columns }
     ensures { IfOk result (λ c. tree_of c ≡ resolved columns.now (raw_tree_of raw.now)) }
 {

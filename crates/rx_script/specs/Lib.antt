@@ -1,0 +1,9 @@
+pub mod Clauses
+pub mod Grammar
+pub mod Hints
+pub mod Items
+pub mod Reading
+pub mod Segments
+pub mod Selects
+pub mod Sets
+pub mod Statements

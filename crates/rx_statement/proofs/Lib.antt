@@ -1,0 +1,5 @@
+mod AskingLaws
+mod Numbers
+mod Parts
+mod Steps
+mod Within
