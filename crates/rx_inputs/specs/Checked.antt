@@ -1,7 +1,7 @@
 -- Inputs that are checked one after the other.
 use Rattle.std.specs.Prelude.{◌≡◌, ℕ, List, length, Option, Some, None, Result, Ok, Err, nat_lt, if◌then◌else◌}
 use Rattle.rx_inputs.specs.declared.inputs.Input.{Input}
-use Rattle.rx_inputs.specs.Refusals.{Refusal, too_long, not_built, limit_of, line_of_refusal}
+use Rattle.rx_inputs.specs.Refusals.{Refusal, too_long, limit_of, line_of_refusal}
 
 -- what a check of inputs gives
 pub data Checked (A : Type 0) : Type 0 where
@@ -25,11 +25,6 @@ text_of_file input (Some text) = if nat_lt (limit_of input) (length text) then R
 abbrev pub unless_fault : {A F : Type 0} → (F → Refusal) → Result A F → Checked A
 unless_fault refusal (Ok a) = Accepts a
 unless_fault refusal (Err fault) = Refuses (refusal fault)
-
--- what a text in a form that is built stands for
-abbrev pub built : {A : Type 0} → Input → Option A → Checked A
-built input None = Refuses (not_built input)
-built input (Some a) = Accepts a
 
 -- the check gives this value, where what it depends on is told
 abbrev pub AcceptsAs : {A : Type 0} → Checked A → A → Type 0

@@ -12,6 +12,10 @@ use Rattle.rx_schema.specs.declared.faults.SchemaFault.{SchemaFault}
 use Rattle.rx_schema.specs.declared.faults.SchemaFault.TheVariants as of_schema
 use Rattle.rx_data.specs.declared.faults.DataFault.{DataFault}
 use Rattle.rx_data.specs.declared.faults.DataFault.TheVariants as of_data
+use Rattle.rx_statement.specs.declared.faults.What.{What}
+use Rattle.rx_statement.specs.declared.faults.What.TheVariants as of_segment
+use Rattle.rx_statement.specs.declared.faults.ScriptFault.{ScriptFault}
+use Rattle.rx_statement.specs.declared.faults.ScriptFault.TheVariants as of_script
 use Rattle.rx_inputs.specs.declared.inputs.Input.{Input}
 use Rattle.rx_inputs.specs.declared.inputs.Input.TheVariants.{Schema, Data, Script}
 
@@ -23,6 +27,7 @@ pub data Refusal : Type 0 where
   no_schema : SchemaFault → Refusal
   -- the data of a table with this schema
   no_rows : TheSchema → DataFault → Refusal
+  no_script : ScriptFault → Refusal
 
 -- the most bytes of a file
 abbrev pub limit_of : Input → ℕ
@@ -89,6 +94,30 @@ data_line columns (of_data.NullNotAllowed row column) = field_line (codes "refus
 data_line columns of_data.TooManyRows = codes "refused: data: too many rows\n"
 data_line columns of_data.NoMemory = codes "out of memory\n"
 
+-- why a segment of a script is refused, without the name behind it
+abbrev pub what_text : What → List ℕ
+what_text of_segment.NotAToken = codes "not a token"
+what_text of_segment.NotInGrammar = codes "not in grammar"
+what_text (of_segment.UnknownName name) = codes "unknown name: "
+what_text of_segment.TypeMismatch = codes "type mismatch"
+what_text of_segment.NotGrouped = codes "not grouped"
+what_text (of_segment.BadSetting name) = codes "bad setting: "
+
+-- the name for which it is refused, and nothing where it is for none
+abbrev pub name_in : What → List ℕ
+name_in (of_segment.UnknownName name) = name
+name_in (of_segment.BadSetting name) = name
+name_in _ = []
+
+-- what the refusal of a segment says, by its number
+abbrev pub statement_line : ℕ → What → List ℕ
+statement_line statement what = codes "refused: script: statement " ++ decimal statement ++ codes ": " ++ what_text what ++ name_in what ++ codes "\n"
+
+-- what the refusal of a script says
+abbrev pub script_line : ScriptFault → List ℕ
+script_line (of_script.Bad statement what) = statement_line statement what
+script_line of_script.NoMemory = codes "out of memory\n"
+
 -- the line of a refusal
 abbrev pub line_of_refusal : Refusal → List ℕ
 line_of_refusal words = codes "refused: words\n"
@@ -96,3 +125,4 @@ line_of_refusal (too_long input) = codes "refused: " ++ name_of input ++ codes "
 line_of_refusal (not_built input) = codes "refused: not built: " ++ name_of input ++ codes "\n"
 line_of_refusal (no_schema fault) = schema_line fault
 line_of_refusal (no_rows schema fault) = data_line schema.columns fault
+line_of_refusal (no_script fault) = script_line fault

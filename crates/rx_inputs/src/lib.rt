@@ -3,7 +3,9 @@
 
 mod inputs;
 mod lines;
+mod plain;
 mod reading;
+mod script_lines;
 
 pub use inputs::{FileNames, Input};
 pub use lines::words_line;

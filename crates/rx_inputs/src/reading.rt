@@ -14,11 +14,13 @@ ghost use Rattle.rx_inputs.specs.declared.inputs.Input.TheVariants as of_input;
 
 use crate::inputs::{FileNames, Input};
 use crate::lines::{data_line, not_built_line, schema_line, too_long_line};
+use crate::plain::are_plain;
+use crate::script_lines::script_line;
 use rx_data::DataFault;
-use rx_forms::{FormFault, read_script_form};
 use rx_outside::{FileFault, Files, read_whole};
 use rx_query::Script;
 use rx_schema::SchemaFault;
+use rx_statement::ScriptFault;
 use rx_value::{Bytes, Index, RowList, Schema};
 use std::alloc::{AllocError, Global};
 
@@ -183,14 +185,19 @@ fn read_script<F: Files>(
     ensures keeps { KeepsFiles F.told F.sure F.room files.old files.new }
 {
     let text = read_text(alloc, files, name, Input::Script)?;
-    match read_script_form(alloc, text.as_slice(), schema) {
-        Ok(script) => Ok(script),
-        Err(FormFault::NotBuilt) => {
-            let line = Bytes::of(alloc, not_built_line(Input::Script))?;
-            Err(InputFault::Refused { line })
+    let script = match rx_statement::read_script(alloc, text.as_slice(), schema) {
+        Ok(script) => script,
+        Err(ScriptFault::NoMemory) => return Err(InputFault::NoMemory),
+        Err(fault) => {
+            let line = script_line(alloc, &fault)?;
+            return Err(InputFault::Refused { line });
         }
-        Err(FormFault::NoMemory) => Err(InputFault::NoMemory),
+    };
+    if !are_plain(&script) {
+        let line = Bytes::of(alloc, not_built_line(Input::Script))?;
+        return Err(InputFault::Refused { line });
     }
+    Ok(script)
 }
 
 // The text of a file within its limit.

@@ -4,13 +4,14 @@ ghost use Rattle.rx_cond.specs.Tri.{is_true};
 ghost use Rattle.rx_rows.specs.Answer.{projected};
 
 use rx_cond::{Cond, Tri, truth};
+use rx_query::Item;
 use rx_value::Row;
 use std::marker::Model;
 
-/// Some columns of a row, which stay where they are. Seen by contracts as their values.
+/// The select list at a row, whose values stay where they are. Seen by contracts as these values.
 #[derive(Drop)]
 pub struct Projected<'a> {
-    pub(crate) columns: &'a [u32],
+    pub(crate) items: &'a [Item],
     pub(crate) row: &'a Row,
 }
 
@@ -21,7 +22,7 @@ impl<'a> Model for Projected<'a> {
 
     ghost Value = { List value };
 
-    ghost view = { λ p. projected p.columns.now p.row.now };
+    ghost view = { λ p. projected p.items.now p.row.now };
 }
 
 /// Whether a condition is true at a row, and neither false nor unknown. Takes no memory.
@@ -31,9 +32,10 @@ pub fn is_selected(cond: &Cond, row: &Row) -> bool
     truth(cond, row) == Tri::T
 }
 
-/// The values of these columns of a row, in their order, NULL for a column that isn't there. Takes no memory.
-pub fn project<'a>(columns: &'a [u32], row: &'a Row) -> Projected<'a>
-    ensures { result ≡ projected columns.now row.now }
+/// What the items of a select list are at a row, in their order: the value of a column, NULL for one that isn't there and
+/// for what is no column. Takes no memory.
+pub fn project<'a>(items: &'a [Item], row: &'a Row) -> Projected<'a>
+    ensures { result ≡ projected items.now row.now }
 {
-    Projected { columns, row }
+    Projected { items, row }
 }

@@ -1,12 +1,12 @@
 ghost use Rattle.std.specs.Prelude.{◌≡◌, ◌++◌, ◌∷◌, [], List, ℕ, OnOk, OnErr, option_copied, unwrap_or};
 ghost use Rattle.std.specs.List.{flat_map};
 ghost use Rattle.rx_value.specs.declared.values.Value.TheVariants.{Null};
-ghost use Rattle.rx_cond.specs.Test.{column_value};
-ghost use Rattle.rx_rows.specs.Answer.{projected};
+ghost use Rattle.rx_rows.specs.Answer.{item_value, projected};
 ghost use Rattle.rx_rows.specs.Lines.{line_of, footer_of, value_text, escaped, values_text, GoesOn};
 
 use crate::choosing::Projected;
 use itoa::Buffer;
+use rx_query::Item;
 use rx_value::{Bytes, Row, Value};
 use std::alloc::AllocError;
 
@@ -27,14 +27,14 @@ pub fn print_row(row: &Row, into: &mut Bytes) -> Result<(), AllocError>
     }
 }
 
-/// Appends the line of a row's columns where they stand, as `print_row` does of a row of its own.
+/// Appends the line of a select list at a row, as `print_row` does of a row of its own.
 /// The error is want of memory, and leaves `into` as it was.
 pub fn print_projected(values: &Projected<'_>, into: &mut Bytes) -> Result<(), AllocError>
     ensures ok { OnOk result (into.new ≡ into.old ++ line_of values.now) }
     ensures err { OnErr result (into.new ≡ into.old) }
 {
     let start = into.len();
-    match print_line(values.columns, values.row, into) {
+    match print_line(values.items, values.row, into) {
         Ok(()) => Ok(()),
         Err(refused) => {
             into.truncate(start);
@@ -43,9 +43,25 @@ pub fn print_projected(values: &Projected<'_>, into: &mut Bytes) -> Result<(), A
     }
 }
 
-/// Appends the line that closes a block: how many rows it has. The error is want of memory.
+/// Appends the line that closes a block: how many rows it has.
+/// The error is want of memory, and leaves `into` as it was.
 pub fn print_footer(rows: u64, into: &mut Bytes) -> Result<(), AllocError>
-    ensures { OnOk result (into.new ≡ into.old ++ footer_of rows) }
+    ensures ok { OnOk result (into.new ≡ into.old ++ footer_of rows) }
+    ensures err { OnErr result (into.new ≡ into.old) }
+{
+    let before = into.len();
+    match print_count(rows, into) {
+        Ok(()) => Ok(()),
+        Err(refused) => {
+            into.truncate(before);
+            Err(refused)
+        }
+    }
+}
+
+fn print_count(rows: u64, into: &mut Bytes) -> Result<(), AllocError>
+    ensures ok { OnOk result (into.new ≡ into.old ++ footer_of rows) }
+    ensures err { OnErr result (GoesOn into.old into.new) }
 {
     into.append(b"\\. ")?;
     into.append(Buffer::new().format(rows).as_bytes())?;
@@ -76,36 +92,39 @@ fn print_whole_row(row: &[Value], into: &mut Bytes) -> Result<(), AllocError>
     Ok(())
 }
 
-fn print_line(columns: &[u32], row: &Row, into: &mut Bytes) -> Result<(), AllocError>
-    ensures ok { OnOk result (into.new ≡ into.old ++ line_of (projected columns.now row.now)) }
+fn print_line(items: &[Item], row: &Row, into: &mut Bytes) -> Result<(), AllocError>
+    ensures ok { OnOk result (into.new ≡ into.old ++ line_of (projected items.now row.now)) }
     ensures err { OnErr result (GoesOn into.old into.new) }
 {
-    print_values(columns, row.as_slice(), into)?;
+    print_values(items, row.as_slice(), into)?;
     into.push(b'\n')
 }
 
-// The values of these columns, parted by tabs.
-fn print_values(columns: &[u32], row: &[Value], into: &mut Bytes) -> Result<(), AllocError>
-    ensures ok { OnOk result (into.new ≡ into.old ++ values_text (projected columns.now row.now)) }
+// The values of these items, parted by tabs.
+fn print_values(items: &[Item], row: &[Value], into: &mut Bytes) -> Result<(), AllocError>
+    ensures ok { OnOk result (into.new ≡ into.old ++ values_text (projected items.now row.now)) }
     ensures err { OnErr result (GoesOn into.old into.new) }
 {
-    let Some((first, rest)) = columns.split_first() else {
+    let Some((first, rest)) = items.split_first() else {
         return Ok(());
     };
-    print_column(*first, row, into)?;
-    for column in rest {
+    print_item(first, row, into)?;
+    for item in rest {
         into.push(b'\t')?;
-        print_column(*column, row, into)?;
+        print_item(item, row, into)?;
     }
     Ok(())
 }
 
-// The value of a column.
-fn print_column(column: u32, row: &[Value], into: &mut Bytes) -> Result<(), AllocError>
-    ensures ok { OnOk result (into.new ≡ into.old ++ value_text (column_value column row.now)) }
+// The value of an item.
+fn print_item(item: &Item, row: &[Value], into: &mut Bytes) -> Result<(), AllocError>
+    ensures ok { OnOk result (into.new ≡ into.old ++ value_text (item_value row.now item.now)) }
     ensures err { OnErr result (GoesOn into.old into.new) }
 {
-    print_value(row.get(column as usize), into)
+    match item {
+        Item::Column(column) => print_value(row.get(*column as usize), into),
+        _ => print_value(None, into),
+    }
 }
 
 // A value, or NULL where there is none.

@@ -1,5 +1,5 @@
 -- What the calls of a table give, count and leave.
-use Rattle.std.specs.Prelude.{Bool, true, ◌≡◌, ℕ, ◌≤◌, List, slice_get, Option, Some, None}
+use Rattle.std.specs.Prelude.{Bool, true, ◌≡◌, ℕ, ◌≤◌, List, slice_get, Option, Some, None, IfSome, unwrap_or, []}
 use Rattle.rx_value.specs.declared.values.Value.{Value}
 use Rattle.rx_value.specs.declared.shapes.Schema.{Schema}
 use Rattle.rx_value.specs.Counting.{rise, Rose}
@@ -29,26 +29,37 @@ pub record Meaning : Type 0 where
   pub flawed : ℕ → Bool
   pub sure : Bool
 
+-- the rows of a table, and none where they aren't told
+abbrev pub rows_in : Meaning → List (List Value)
+rows_in table = unwrap_or table.rows []
+
+-- this holds where the rows are told
+abbrev pub WhereTold : Meaning → Type 0 → Type 0
+WhereTold table P = IfSome table.rows (λ rows. P)
+
 -- What the calls of a table raise: what was read, how often a read failed, and how often something damaged was read.
 pub record Tally : Type 0 where
   pub counts : Counts
   pub faults : ℕ
   pub damages : ℕ
 
--- A read fails only where the count of faults rose, and never where the table is sure;
+-- Why a call stops: a read fails only where the count of faults rose, and never where the table is sure;
 -- damage comes only where its count rose, at an offset that is flawed; want of memory is free.
-abbrev pub Caused : {S : Type 0} → (S → Meaning) → (S → Tally) → S → S → TableFault → Type 0
-Caused means tally old new ReadFault = Rose (tally old).faults (tally new).faults × ((means old).sure ≡ true → ⊥)
-Caused means tally old new (Damaged at) = Rose (tally old).damages (tally new).damages × ((means old).flawed at ≡ true)
-Caused means tally old new NoMemory = Unit {0}
+abbrev pub Caused : Meaning → Tally → Tally → TableFault → Type 0
+Caused table old new ReadFault = Rose old.faults new.faults × (table.sure ≡ true → ⊥)
+Caused table old new (Damaged at) = Rose old.damages new.damages × (table.flawed at ≡ true)
+Caused table old new NoMemory = Unit {0}
 
--- What every call keeps: what the table means and what is kept; no count falls, and no read fails where the table is sure.
-pub record Keeps {S : Type 0} (means : S → Meaning) (tally : S → Tally) (kept : S → S → Type 0) (old new : S) : Type 0 where
+-- What calls leave that all answered, and those of which the last stopped with a fault: what the table means, and what its own law says;
+-- no count falls, no read fails where the table is sure, and a stop has its cause.
+pub record Keeps {S : Type 0} (means : S → Meaning) (tally : S → Tally) (leaves : Option TableFault → S → S → Type 0)
+    (stop : Option TableFault) (old new : S) : Type 0 where
   pub means_stays : means new ≡ means old
-  pub kept_so : kept old new
+  pub leaves_so : leaves stop old new
   pub faults_later : (tally old).faults ≤ (tally new).faults
   pub damages_later : (tally old).damages ≤ (tally new).damages
   pub sure : (means old).sure ≡ true → (tally new).faults ≡ (tally old).faults
+  pub cause : IfSome stop (Caused (means old) (tally old) (tally new))
 
 -- the counts after these more
 abbrev pub add_counts : Counts → Counts → Counts

@@ -1,5 +1,5 @@
-ghost use Rattle.std.specs.Prelude.{◌≡◌, Some, true, false, length};
-ghost use Rattle.rx_store.specs.Stored.{IsStorable, no_counts};
+ghost use Rattle.std.specs.Prelude.{◌≡◌};
+ghost use Rattle.rx_store.specs.Stored.{IsStorable, in_memory, no_counts};
 
 use crate::tables::{Counts, Table, TableFault};
 use rx_value::{Row, RowList, Schema};
@@ -44,21 +44,15 @@ impl MemTable {
 }
 
 impl Table for MemTable {
-    ghost means = { λ t. record { schema = t.schema; rows = Some t.rows; count = length t.rows; flawed = λ at. false; sure = true } };
+    ghost means = { λ t. in_memory t.schema t.rows };
 
     ghost tally = { λ t. record { counts = t.counts; faults = 0; damages = 0 } };
 
-    ghost kept = { λ old new. Unit {0} };
+    ghost leaves = { λ stop old new. Unit {0} };
 
-    ghost spent = { λ old new. Unit {0} };
+    ghost leaves_same = { λ stop t. tt };
 
-    ghost kept_same = { λ t. tt };
-
-    ghost kept_chain = { λ a b c p q. tt };
-
-    ghost spent_same = { λ t. tt };
-
-    ghost spent_chain = { λ a b c p q. tt };
+    ghost leaves_chain = { λ stop a b c p q. tt };
 
     fn shape(&self) -> &Schema {
         &self.schema

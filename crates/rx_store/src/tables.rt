@@ -1,7 +1,8 @@
-ghost use Rattle.std.specs.Prelude.{◌≡◌, ◌<◌, ◌≤◌, IfOk, IfErr, IfSome, OnOk, OnErr, length};
+ghost use Rattle.std.specs.Prelude.{◌≡◌, ◌<◌, ◌≤◌, Option, Some, None, IfOk, IfErr, IfSome, OnOk, OnErr, length};
 ghost use Rattle.rx_value.specs.Limits.{most_rows};
 ghost use Rattle.rx_value.specs.Shape.{IsSchema, FitsRow};
-ghost use Rattle.rx_store.specs.Tables.{Meaning as meaning, Tally as tally_record, with_row, IsRow, Caused, Keeps};
+ghost use Rattle.rx_store.specs.Tables.{Meaning as meaning, Tally as tally_record, with_row, IsRow, Keeps};
+ghost use Rattle.rx_store.specs.declared.tables.TableFault.{TableFault as table_fault};
 
 use rx_value::{Row, Schema};
 use std::alloc::Global;
@@ -35,10 +36,8 @@ pub trait Table {
     ghost means: { Self → meaning };
     // what its calls raise
     ghost tally: { Self → tally_record };
-    // what each call leaves, and what the calls that answer may cost
-    ghost kept: { Self → Self → Type 0 };
-
-    ghost spent: { Self → Self → Type 0 };
+    // what is left by calls that all answered, and by those of which the last stopped with a fault
+    ghost leaves: { Option table_fault → Self → Self → Type 0 };
 
     /// The shape of the table.
     fn shape(&self) -> &Schema
@@ -58,20 +57,15 @@ pub trait Table {
         ensures fits { IfOk result (FitsRow (means self.old).schema) }
         ensures counts { OnOk result ((tally self.new).counts ≡ with_row (tally self.old).counts) }
         ensures refused { OnErr result ((tally self.new).counts ≡ (tally self.old).counts) }
-        ensures cause { IfErr result (Caused means tally self.old self.new) }
-        ensures keeps { Keeps means tally kept self.old self.new }
-        ensures spent { OnOk result (spent self.old self.new) };
+        ensures keeps { OnOk result (Keeps means tally leaves None self.old self.new) }
+        ensures cause { IfErr result (λ f. Keeps means tally leaves (Some f) self.old self.new) };
 
     /// What was read so far.
     fn counts(&self) -> Counts
         ensures { result ≡ (tally self.now).counts };
 
-    // a table is kept, and nothing is spent, where no call comes or where calls follow each other
-    ghost kept_same: { (t : Self) → kept t t };
+    // no call leaves so, and calls behind calls that answered do
+    ghost leaves_same: { (stop : Option table_fault) (t : Self) → leaves stop t t };
 
-    ghost kept_chain: { (a b c : Self) → kept a b → kept b c → kept a c };
-
-    ghost spent_same: { (t : Self) → spent t t };
-
-    ghost spent_chain: { (a b c : Self) → spent a b → spent b c → spent a c };
+    ghost leaves_chain: { (stop : Option table_fault) (a b c : Self) → leaves None a b → leaves stop b c → leaves stop a c };
 }

@@ -1,25 +1,46 @@
 -- The blocks of a script, one step after another.
-use Rattle.std.proofs.Common.{◌≡◌, ◌≤◌, ℕ, ◌+◌, List, [], ◌∷◌, ◌++◌, take, length, Option, Some, None, refl, ap, sym, subst, ◌∙◌, arith, append_assoc, min, map, drop, get_or, ◌<◌, suc, add-one, length-append}
+use Rattle.std.proofs.Common.{◌≡◌, ◌≤◌, ℕ, ◌+◌, List, [], ◌∷◌, ◌++◌, take, length, Option, Some, None, IfSome, refl, ap, sym, subst, ◌∙◌, arith, append_assoc, min, map, drop, get_or, ◌<◌, suc, add-one, length-append}
 use Rattle.std.specs.List.{concat}
 use Rattle.std.proofs.lemmas.List.{append-nil, take-append-le, take_min}
 use Rattle.std.proofs.Math.Seq.{drop-cons}
 use Rattle.std.proofs.lemmas.List.Folds.{concat-append}
 use Rattle.rx_value.specs.declared.values.Value.{Value}
-use Rattle.rx_outside.specs.Sink.{Takes, LeavesRoom}
+use Rattle.rx_value.specs.Counting.{Rose}
+use Rattle.rx_outside.specs.Sink.{Takes, IsFront, TakesFront, LeavesRoom}
 use Rattle.rx_outside.proofs.Chains.{LeavesRoom-chain}
 use Rattle.rx_query.specs.Steps.{Step}
+use Rattle.rx_query.specs.Settings.{settings_after}
 use Rattle.rx_query.specs.declared.settings.Settings.{Settings}
+use Rattle.rx_store.specs.declared.tables.Counts.{Counts}
+use Rattle.rx_store.specs.Tables.{Meaning, WhereTold}
 use Rattle.rx_tool.specs.declared.engine.SelectFault.{SelectFault}
 use Rattle.rx_tool.specs.declared.engine.SelectFault.TheVariants.{ReadFault, WriteFault, Damaged, NoMemory}
-use Rattle.rx_store.specs.declared.tables.Counts.{Counts}
-use Rattle.rx_query.specs.Settings.{settings_after}
-use Rattle.rx_tool.specs.Blocks.{blocks_of_step, blocks_from, counts_after, counts_after_step}
-use Rattle.rx_tool.specs.Running.{PutsSome, PutsFront, RunsStep, RunsScript, StopsStep, StopsScript, HasRoom, size_of, StepIsCalm, StepLeavesRoom, ScriptIsCalm}
+use Rattle.rx_tool.specs.Seen.{SinkSeen}
+use Rattle.rx_tool.specs.Blocks.{counts_after, counts_after_request}
+use Rattle.rx_store.specs.declared.tables.TableFault.{TableFault}
+use Rattle.rx_store.specs.declared.tables.TableFault.TheVariants as of_table
+use Rattle.rx_tool.specs.Select.{table_fault, select_fault}
+use Rattle.rx_tool.specs.Running.{PutsSome, PutsFront, Puts, Stops, StopsWriting, StopsBetween, HasRoom, size_of}
 
--- The blocks that were put and those that are to come are all.
-abbrev pub PutsSoFar : Option (List (List Value)) → Settings → List Step → Settings → List Step → Option (List ℕ) → Option (List ℕ) → Type 0
-PutsSoFar None first steps now rest before after = Unit {0}
-PutsSoFar (Some rows) first steps now rest before after = (done : List (List ℕ)) × Takes before after (concat done) × (blocks_from first steps rows ≡ done ++ blocks_from now rest rows)
+-- The blocks that were put and those that are to come are all, and the room fell by the bytes of those that were put.
+pub record PutsSoFar (all rest : List (List ℕ)) (old new : SinkSeen) : Type 0 where
+  pub done : List (List ℕ)
+  pub split : all ≡ done ++ rest
+  pub put : Takes old.text new.text (concat done)
+  pub room : LeavesRoom old.room new.room (size_of done)
+
+-- what holds of any rows, and what follows from one or two facts, where rows are told
+told : {P : Type 0} (o : Option (List (List Value))) → P → IfSome o (λ rows. P)
+told None p = tt
+told (Some rows) p = p
+
+told_then : {P Q : Type 0} (o : Option (List (List Value))) → (P → Q) → IfSome o (λ rows. P) → IfSome o (λ rows. Q)
+told_then None f p = tt
+told_then (Some rows) f p = f p
+
+told_both : {P Q R : Type 0} (o : Option (List (List Value))) → (P → Q → R) → IfSome o (λ rows. P) → IfSome o (λ rows. Q) → IfSome o (λ rows. R)
+told_both None f p q = tt
+told_both (Some rows) f p q = f p q
 
 pub Takes-nothing : (t : Option (List ℕ)) → Takes t t []
 Takes-nothing None = refl
@@ -28,23 +49,6 @@ Takes-nothing (Some t) = ap Some (sym (append-nil t))
 Takes-then : (a b c : Option (List ℕ)) (xs ys : List ℕ) → Takes a b xs → Takes b c ys → Takes a c (xs ++ ys)
 Takes-then None b c xs ys p q = rw (q, p) refl
 Takes-then (Some t) b c xs ys p q = rw (q, p) (ap Some (append_assoc t xs ys))
-
-pub puts-none : (told : Option (List (List Value))) (s : Settings) (steps : List Step) (t : Option (List ℕ)) → PutsSoFar told s steps s steps t t
-puts-none None s steps t = tt
-puts-none (Some rows) s steps t = ([], Takes-nothing t, refl)
-
-pub puts-more : (told : Option (List (List Value))) (first now : Settings) (steps rest : List Step) (step : Step) (a b c : Option (List ℕ)) → PutsSoFar told first steps now (step ∷ rest) a b → RunsStep told now step b c → PutsSoFar told first steps (settings_after now step) rest a c
-puts-more None first now steps rest step a b c p q = tt
-puts-more (Some rows) first now steps rest step a b c (done, taken, all) q =
-    let here = blocks_of_step now step rows in (
-      done ++ here,
-      subst (λ (t : List ℕ). Takes a c t) (sym (concat-append done here)) (Takes-then a b c (concat done) (concat here) taken q),
-      all ∙ sym (append_assoc done here (blocks_from (settings_after now step) rest rows)),
-    )
-
-pub puts-all : (told : Option (List (List Value))) (first now : Settings) (steps : List Step) (a b : Option (List ℕ)) → PutsSoFar told first steps now [] a b → RunsScript told first steps a b
-puts-all None first now steps a b p = tt
-puts-all (Some rows) first now steps a b (done, taken, all) = subst (λ (bs : List (List ℕ)). Takes a b (concat bs)) (sym (all ∙ append-nil done)) taken
 
 -- the steps from a place on
 pub step_there : {A B : Type 0} (f : A → B) (xs : List A) (i : ℕ) (x : A) → i < length xs → x ≡ get_or xs i x → map f (drop i xs) ≡ f x ∷ map f (drop (i + 1) xs)
@@ -70,73 +74,132 @@ puts_some done here rest all a b c taken is (n, more) =
     let first : concat (take m all) ≡ concat done ++ concat (take n here) = ap (λ bs. concat (take m bs)) is ∙ ap concat e ∙ concat-append done (take n here) in
     (m, subst (λ (t : List ℕ). Takes a c t) (sym first) (Takes-then a b c (concat done) (concat (take n here)) taken more))
 
+size_of-append : (xs ys : List (List ℕ)) → size_of (xs ++ ys) ≡ size_of xs + size_of ys
+size_of-append xs ys = ap length (concat-append xs ys) ∙ length-append (concat xs) (concat ys)
+
 puts_front : (done here rest all : List (List ℕ)) (a b c : Option (List ℕ)) → Takes a b (concat done) → all ≡ done ++ (here ++ rest) → PutsFront here b c → PutsFront all a c
-puts_front done here rest all a b c taken is (front, (others, whole), more) =
+puts_front done here rest all a b c taken is (front, (others, whole), short, more) =
     let text : concat all ≡ (concat done ++ front) ++ (others ++ concat rest) =
     ap concat is ∙ concat-append done (here ++ rest) ∙ ap (λ t. concat done ++ t) (concat-append here rest)
     ∙ ap (λ t. concat done ++ (t ++ concat rest)) whole
     ∙ ap (λ t. concat done ++ t) (append_assoc front others (concat rest))
     ∙ sym (append_assoc (concat done) front (others ++ concat rest)) in
-    (concat done ++ front, (others ++ concat rest, text), Takes-then a b c (concat done) front taken more)
-
--- a step stopped after others
-pub stops-after : (told : Option (List (List Value))) (first now : Settings) (steps rest : List Step) (step : Step) (a b c : Option (List ℕ)) (f g h : ℕ) (fault : SelectFault) → PutsSoFar told first steps now (step ∷ rest) a b → f ≤ g → StopsStep told now step b c g h fault → StopsScript told first steps a c f h fault
-stops-after None first now steps rest step a b c f g h ReadFault p le q = tt
-stops-after None first now steps rest step a b c f g h WriteFault p le q = omega (arith, le, q)
-stops-after None first now steps rest step a b c f g h (Damaged at) p le q = tt
-stops-after None first now steps rest step a b c f g h NoMemory p le q = tt
-stops-after (Some rows) first now steps rest step a b c f g h ReadFault (done, taken, all) le q = puts_some done (blocks_of_step now step rows) (blocks_from (settings_after now step) rest rows) _ a b c taken all q
-stops-after (Some rows) first now steps rest step a b c f g h WriteFault (done, taken, all) le q = (omega (arith, le, q.0), puts_front done (blocks_of_step now step rows) (blocks_from (settings_after now step) rest rows) _ a b c taken all q.1)
-stops-after (Some rows) first now steps rest step a b c f g h (Damaged at) (done, taken, all) le q = puts_some done (blocks_of_step now step rows) (blocks_from (settings_after now step) rest rows) _ a b c taken all q
-stops-after (Some rows) first now steps rest step a b c f g h NoMemory (done, taken, all) le q = puts_some done (blocks_of_step now step rows) (blocks_from (settings_after now step) rest rows) _ a b c taken all q
-
--- the counts after one step more
-pub counts-more : (n m : ℕ) (left rest whole : List Step) (step : Step) (a b c : Counts) → left ≡ step ∷ rest → counts_after n left b ≡ counts_after n whole a → m ≡ n → c ≡ counts_after_step m step b → counts_after n rest c ≡ counts_after n whole a
-counts-more n m left rest whole step a b c is so_far same counted =
-    ap (counts_after n rest) (counted ∙ ap (λ k. counts_after_step k step b) same) ∙ ap (λ steps. counts_after n steps b) (sym is) ∙ so_far
-
--- So many bytes were put; those that are to come and they are all; and where there was room for all, no put failed.
-abbrev pub RoomSoFar : Option (List (List Value)) → Settings → List Step → Settings → List Step → Option ℕ → Option ℕ → ℕ → ℕ → Type 0
-RoomSoFar None first steps now rest before after faults count = Unit {0}
-RoomSoFar (Some rows) first steps now rest before after faults count =
-    (spent : ℕ) × LeavesRoom before after spent × (spent + size_of (blocks_from now rest rows) ≡ size_of (blocks_from first steps rows))
-    × (HasRoom before (size_of (blocks_from first steps rows)) → count ≡ faults)
+    let size : size_of all ≡ size_of done + (size_of here + size_of rest) =
+    ap size_of is ∙ size_of-append done (here ++ rest) ∙ ap (λ n. size_of done + n) (size_of-append here rest) in
+    let put : length (concat done ++ front) ≡ size_of done + length front = length-append (concat done) front in (
+      concat done ++ front,
+      (others ++ concat rest, text),
+      omega (arith, size, put, short),
+      Takes-then a b c (concat done) front taken more,
+    )
 
 leaves_all : (room : Option ℕ) → LeavesRoom room room 0
 leaves_all None = refl
 leaves_all (Some r) = (r, refl, omega arith)
 
-pub room-none : (told : Option (List (List Value))) (s : Settings) (steps : List Step) (room : Option ℕ) (faults : ℕ) → RoomSoFar told s steps s steps room room faults faults
-room-none None s steps room faults = tt
-room-none (Some rows) s steps room faults = (0, leaves_all room, omega arith, λ h. refl)
+-- nothing was put yet
+pub puts-none : (table : Meaning) (all : List (List ℕ)) (s : SinkSeen) → WhereTold table (PutsSoFar all all s s)
+puts-none table all s = told table.rows (record { done = []; split = refl; put = Takes-nothing s.text; room = leaves_all s.room })
 
-size_of-append : (xs ys : List (List ℕ)) → size_of (xs ++ ys) ≡ size_of xs + size_of ys
-size_of-append xs ys = ap length (concat-append xs ys) ∙ length-append (concat xs) (concat ys)
+more_put : (all here rest : List (List ℕ)) (a b c : SinkSeen) → PutsSoFar all (here ++ rest) a b → Takes b.text c.text (concat here) × LeavesRoom b.room c.room (size_of here) → PutsSoFar all rest a c
+more_put all here rest a b c p q = record {
+  done = p.done ++ here;
+  split = p.split ∙ sym (append_assoc p.done here rest);
+  put = subst (λ (t : List ℕ). Takes a.text c.text t) (sym (concat-append p.done here)) (Takes-then a.text b.text c.text (concat p.done) (concat here) p.put q.0);
+  room = subst (λ (n : ℕ). LeavesRoom a.room c.room n) (sym (size_of-append p.done here)) (LeavesRoom-chain a.room b.room c.room (size_of p.done) (size_of here) p.room q.1);
+}
+
+both_put : (here : List (List ℕ)) (b c : SinkSeen) → Takes b.text c.text (concat here) → LeavesRoom b.room c.room (size_of here) → Takes b.text c.text (concat here) × LeavesRoom b.room c.room (size_of here)
+both_put here b c t r = (t, r)
+
+-- a step was run after others
+pub puts-more : (table : Meaning) (all here rest : List (List ℕ)) (a b c : SinkSeen) → WhereTold table (PutsSoFar all (here ++ rest) a b) → Puts table here b c → WhereTold table (PutsSoFar all rest a c)
+puts-more table all here rest a b c p q =
+    told_both table.rows (more_put all here rest a b c) p (told_both table.rows (both_put here b c) q.text q.room)
+
+-- no block is to come
+pub puts-all : (table : Meaning) (all : List (List ℕ)) (a b : SinkSeen) → WhereTold table (PutsSoFar all [] a b) → b.faults ≡ a.faults → Puts table all a b
+puts-all table all a b p same = record {
+  text = told_then table.rows (λ s. subst (λ (bs : List (List ℕ)). Takes a.text b.text (concat bs)) (sym (s.split ∙ append-nil s.done)) s.put) p;
+  room = told_then table.rows (λ s. subst (λ (bs : List (List ℕ)). LeavesRoom a.room b.room (size_of bs)) (sym (s.split ∙ append-nil s.done)) s.room) p;
+  no_fault = same;
+}
 
 -- there is room for a step where there was room for all
-room_left : (before after : Option ℕ) (spent all here : ℕ) → LeavesRoom before after spent → spent + here ≤ all → HasRoom before all → HasRoom after here
-room_left before after spent all here left within (r, is, fits) =
-    let (s, now, sum) = subst (λ (o : Option ℕ). LeavesRoom o after spent) is left in
-    (s, now, omega (arith, sum, within, fits))
+room_left : (all here rest : List (List ℕ)) (a b : SinkSeen) → PutsSoFar all (here ++ rest) a b → (HasRoom b.room (size_of here) → ⊥) → HasRoom a.room (size_of all) → ⊥
+room_left all here rest a b p none (r, is, fits) =
+    let size : size_of all ≡ size_of p.done + (size_of here + size_of rest) =
+    ap size_of p.split ∙ size_of-append p.done (here ++ rest) ∙ ap (λ n. size_of p.done + n) (size_of-append here rest) in
+    let (s, now, sum) = subst (λ (o : Option ℕ). LeavesRoom o b.room (size_of p.done)) is p.room in
+    none (s, now, omega (arith, sum, size, fits))
 
-pub room-stopped : (told : Option (List (List Value))) (first now : Settings) (steps rest : List Step) (step : Step) (a b : Option ℕ) (f g h : ℕ) → RoomSoFar told first steps now (step ∷ rest) a b f g → StepIsCalm told now step b g h → ScriptIsCalm told first steps a f h
-room-stopped None first now steps rest step a b f g h p q = tt
-room-stopped (Some rows) first now steps rest step a b f g h (spent, left, sum, calm) q =
-    let here = blocks_of_step now step rows in
-    let more = size_of-append here (blocks_from (settings_after now step) rest rows) in
-    λ room. q (room_left a b spent (size_of (blocks_from first steps rows)) (size_of here) left (omega (arith, sum, more)) room) ∙ calm room
+between : (table : Meaning) (all here rest : List (List ℕ)) (a b c : SinkSeen) → WhereTold table (PutsSoFar all (here ++ rest) a b) → b.faults ≡ a.faults → StopsBetween table here b c → StopsBetween table all a c
+between table all here rest a b c p same q = record {
+  some = told_both table.rows (λ s t. puts_some s.done here rest all a.text b.text c.text s.put s.split t) p q.some;
+  no_fault = q.no_fault ∙ same;
+}
 
-pub room-more : (told : Option (List (List Value))) (first now : Settings) (steps rest : List Step) (step : Step) (a b c : Option ℕ) (f g h : ℕ) → RoomSoFar told first steps now (step ∷ rest) a b f g → StepIsCalm told now step b g h → StepLeavesRoom told now step b c → RoomSoFar told first steps (settings_after now step) rest a c f h
-room-more None first now steps rest step a b c f g h p q l = tt
-room-more (Some rows) first now steps rest step a b c f g h (spent, left, sum, calm) q l =
-    let here = blocks_of_step now step rows in
-    let more = size_of-append here (blocks_from (settings_after now step) rest rows) in (
-      spent + size_of here,
-      LeavesRoom-chain a b c spent (size_of here) left l,
-      omega (arith, sum, more),
-      room-stopped (Some rows) first now steps rest step a b f g h (spent, left, sum, calm) q,
-    )
+-- a step stopped after others
+pub stops-after : (table : Meaning) (all here rest : List (List ℕ)) (a b c : SinkSeen) (fault : SelectFault) → WhereTold table (PutsSoFar all (here ++ rest) a b) → b.faults ≡ a.faults → Stops table here b c fault → Stops table all a c fault
+stops-after table all here rest a b c ReadFault p same q = between table all here rest a b c p same q
+stops-after table all here rest a b c (Damaged at) p same q = between table all here rest a b c p same q
+stops-after table all here rest a b c NoMemory p same q = between table all here rest a b c p same q
+stops-after table all here rest a b c WriteFault p same q =
+    let rose = q.rose in
+    let later = q.later in
+    record {
+      rose = omega (arith, same, rose);
+      later = omega (arith, same, later);
+      front = told_both table.rows (λ s f. puts_front s.done here rest all a.text b.text c.text s.put s.split f) p q.front;
+      no_room = told_both table.rows (λ s n. room_left all here rest a b s n) p q.no_room;
+    }
 
-pub room-all : (told : Option (List (List Value))) (first now : Settings) (steps : List Step) (a b : Option ℕ) (f g : ℕ) → RoomSoFar told first steps now [] a b f g → ScriptIsCalm told first steps a f g
-room-all None first now steps a b f g p = tt
-room-all (Some rows) first now steps a b f g (spent, left, sum, calm) = calm
+-- the counts after one step more
+pub counts-more : (table means : Meaning) (settings : Settings) (left rest : List Step) (step : Step) (b c all : Counts) → left ≡ step ∷ rest → counts_after settings left table b ≡ all → means ≡ table → c ≡ counts_after_request settings step.request means b → counts_after (settings_after settings step) rest table c ≡ all
+counts-more table means settings left rest step b c all is so_far same counted =
+    ap (counts_after (settings_after settings step) rest table) (counted ∙ ap (λ m. counts_after_request settings step.request m b) same)
+    ∙ ap (λ steps. counts_after settings steps table b) (sym is)
+    ∙ so_far
+
+-- a step that puts nothing
+pub puts_nothing : (table : Meaning) (s : SinkSeen) → Puts table [] s s
+puts_nothing table s = record { text = told table.rows (Takes-nothing s.text); room = told table.rows (leaves_all s.room); no_fault = refl }
+
+-- the text of a block was put
+pub puts_block : (table : Meaning) (block text : List ℕ) (a b : SinkSeen) → WhereTold table (text ≡ block) → Takes a.text b.text text → LeavesRoom a.room b.room (length text) → b.faults ≡ a.faults → Puts table (block ∷ []) a b
+puts_block table block text a b is taken left same = record {
+  text = told_then table.rows (λ e. subst (λ (t : List ℕ). Takes a.text b.text t) (e ∙ sym (append-nil block)) taken) is;
+  room = told_then table.rows (λ e. subst (λ (t : List ℕ). LeavesRoom a.room b.room (length t)) (e ∙ sym (append-nil block)) left) is;
+  no_fault = same;
+}
+
+front_put : (block text : List ℕ) (a b : SinkSeen) → TakesFront a.text b.text a.room b.room text → text ≡ block → PutsFront (block ∷ []) a.text b.text
+front_put block text a b f e =
+    let same : text ≡ concat (block ∷ []) = e ∙ sym (append-nil block) in
+    (f.front, subst (λ (t : List ℕ). IsFront f.front t) same f.is_front, subst (λ (t : List ℕ). length f.front < length t) same f.short, f.text)
+
+no_room_for : (block text : List ℕ) (a : SinkSeen) → ((r : ℕ) → a.room ≡ Some r → length text ≤ r → ⊥) → text ≡ block → HasRoom a.room (size_of (block ∷ [])) → ⊥
+no_room_for block text a none e (r, is, fits) = none r is (omega (arith, fits, ap length (e ∙ sym (append-nil block))))
+
+-- a put of a block's text failed
+pub cut_block : (table : Meaning) (block text : List ℕ) (a b : SinkSeen) → WhereTold table (text ≡ block) → TakesFront a.text b.text a.room b.room text → Rose a.faults b.faults → a.faults ≤ b.faults → ((r : ℕ) → a.room ≡ Some r → length text ≤ r → ⊥) → StopsWriting table (block ∷ []) a b
+cut_block table block text a b is front rose later none = record {
+  rose = rose;
+  later = later;
+  front = told_then table.rows (front_put block text a b front) is;
+  no_room = told_then table.rows (no_room_for block text a none) is;
+}
+
+between-none : (table : Meaning) (blocks : List (List ℕ)) (s : SinkSeen) → StopsBetween table blocks s s
+between-none table blocks s = record { some = told table.rows (0, Takes-nothing s.text); no_fault = refl }
+
+-- where the table has a fault nothing was put
+pub stops_untouched : (table : Meaning) (blocks : List (List ℕ)) (s : SinkSeen) (fault : TableFault) → Stops table blocks s s (select_fault fault)
+stops_untouched table blocks s of_table.ReadFault = between-none table blocks s
+stops_untouched table blocks s (of_table.Damaged at) = between-none table blocks s
+stops_untouched table blocks s of_table.NoMemory = between-none table blocks s
+
+pub table_fault_of : (fault : TableFault) → table_fault (select_fault fault) ≡ Some fault
+table_fault_of of_table.ReadFault = refl
+table_fault_of (of_table.Damaged at) = refl
+table_fault_of of_table.NoMemory = refl

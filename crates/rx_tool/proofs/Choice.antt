@@ -34,14 +34,14 @@ best-kept costs best i b kept = record {
   first = b.first;
 }
 
-pub choice-lower : (all : List Candidate) (best i : ℕ) (d : Candidate) → IsBest (map cost_of all) best i → i < length all → (get_or all i d).cost < (get_or all best d).cost → IsBest (map cost_of all) i (i + 1)
-choice-lower all best i d b within lower =
+pub choice-lower : (all : List Candidate) (best i : ℕ) (d e : Candidate) → IsBest (map cost_of all) best i → i < length all → (get_or all i d).cost < (get_or all best e).cost → IsBest (map cost_of all) i (i + 1)
+choice-lower all best i d e b within lower =
     let long : length (map cost_of all) ≡ length all = length-map all cost_of in
     let there : best < length all = omega (arith, long, b.within) in
-    best-lower (map cost_of all) best i b (omega (arith, long)) (omega (arith, lower, cost_at all i d within, cost_at all best d there))
+    best-lower (map cost_of all) best i b (omega (arith, long)) (omega (arith, lower, cost_at all i d within, cost_at all best e there))
 
-pub choice-kept : (all : List Candidate) (best i : ℕ) (d : Candidate) → IsBest (map cost_of all) best i → i < length all → (get_or all best d).cost ≤ (get_or all i d).cost → IsBest (map cost_of all) best (i + 1)
-choice-kept all best i d b within kept =
+pub choice-kept : (all : List Candidate) (best i : ℕ) (d e : Candidate) → IsBest (map cost_of all) best i → i < length all → (get_or all best e).cost ≤ (get_or all i d).cost → IsBest (map cost_of all) best (i + 1)
+choice-kept all best i d e b within kept =
     let long : length (map cost_of all) ≡ length all = length-map all cost_of in
     let there : best < length all = omega (arith, long, b.within) in
-    best-kept (map cost_of all) best i b (omega (arith, kept, cost_at all i d within, cost_at all best d there))
+    best-kept (map cost_of all) best i b (omega (arith, kept, cost_at all i d within, cost_at all best e there))

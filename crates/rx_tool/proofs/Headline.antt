@@ -1,29 +1,43 @@
 -- The laws of every SELECT.
 use Rattle.std.proofs.Common.{◌≡◌, ℕ, ◌+◌, List, [], ◌∷◌, refl, ap, arith, ◌∙◌, sym}
 use Rattle.std.specs.List.{sum_by}
+use Rattle.std.specs.List.Sorted.{IsPermutation}
 use Rattle.std.proofs.lemmas.List.Sorted.{IsPermutation-refl}
 use Rattle.std.proofs.lemmas.List.Sums.{sum_by-cons}
 use Rattle.rx_value.specs.Counting.{rise}
 use Rattle.rx_store.specs.declared.tables.Counts.{Counts}
-use Rattle.rx_store.specs.Tables.{add_counts}
-use Rattle.rx_query.specs.Steps.{Step, Request}
+use Rattle.rx_store.specs.Tables.{Meaning, rows_in, add_counts}
+use Rattle.rx_query.specs.Steps.{Step, Request, Question}
 use Rattle.rx_query.specs.Steps.Request.{select, change}
+use Rattle.rx_query.specs.Settings.{settings_after}
+use Rattle.rx_query.specs.declared.settings.Settings.{Settings}
 use Rattle.rx_rows.specs.Answer.{answer}
+use Rattle.rx_rows.proofs.Bags.{answer-IsPermutation}
 use Rattle.rx_tool.specs.declared.candidates.Kind.{Kind}
 use Rattle.rx_tool.specs.declared.candidates.Kind.TheVariants.{Table}
-use Rattle.rx_tool.specs.Candidates.{candidates_of, chosen}
-use Rattle.rx_tool.specs.Blocks.{counts_after, counts_after_request, reads_of_request, reads_of_script}
-use Rattle.rx_tool.specs.Headline.{IsFirstOfLeastCost, ReadsEachRow, AnswersAsBag}
+use Rattle.rx_tool.specs.declared.candidates.Candidate.{Candidate}
+use Rattle.rx_tool.specs.Candidates.{candidates_of, chosen, visited, visited_of}
+use Rattle.rx_tool.specs.Blocks.{counts_after, counts_after_request, reads_of_request, reads_from, summed}
+use Rattle.rx_tool.specs.Headline.{IsFirstOfLeastCost, ReadsEachRow, IsBagBlock}
 use Rattle.rx_tool.proofs.Least.{place_is_first}
 
-pub first_is_chosen : (rows : ℕ) → IsFirstOfLeastCost (candidates_of rows) (chosen rows)
-first_is_chosen rows = record { place = place_is_first _ (omega arith); there = refl }
+pub first_is_chosen : (settings : Settings) (q : Question) (table : Meaning) → IsFirstOfLeastCost (candidates_of settings q table) (chosen settings q table)
+first_is_chosen settings q table = record { place = place_is_first _ (omega arith); there = refl }
 
-pub each_row_is_read : (kind : Kind) → ReadsEachRow kind
-each_row_is_read Table = λ rows. IsPermutation-refl rows
+each_kind_reads : (kind : Kind) (candidate : Candidate) (table : Meaning) → IsPermutation (rows_in table) (visited_of kind candidate table)
+each_kind_reads Table candidate table = IsPermutation-refl (rows_in table)
 
-pub answers_are_bags : (kind : Kind) → AnswersAsBag kind
-answers_are_bags Table = λ q rows. IsPermutation-refl (answer q rows)
+pub each_row_is_read : (candidate : Candidate) (table : Meaning) → ReadsEachRow candidate table
+each_row_is_read candidate table = each_kind_reads candidate.kind candidate table
+
+pub blocks_are_bags : (settings : Settings) (number : ℕ) (q : Question) (table : Meaning) → IsBagBlock settings number q table
+blocks_are_bags settings number q table =
+    let candidate = chosen settings q table in
+    record {
+      printed = answer q (visited candidate table);
+      as_bag = answer-IsPermutation q (rows_in table) (visited candidate table) (each_row_is_read candidate table);
+      block = refl;
+    }
 
 rise_zero : (c : ℕ) → c ≡ rise 0 c
 rise_zero c = grind arith
@@ -38,21 +52,23 @@ the_counts seeks entries rows = record { seeks = seeks; entries = entries; rows 
 counts_equal : (seeks seeks' entries entries' rows rows' : ℕ) → seeks ≡ seeks' → entries ≡ entries' → rows ≡ rows' → the_counts seeks entries rows ≡ the_counts seeks' entries' rows'
 counts_equal seeks seeks' entries entries' rows rows' s e r = rw (s, e, r) refl
 
-request_adds : (rows : ℕ) (request : Request) (counts : Counts) → counts_after_request rows request counts ≡ add_counts (reads_of_request rows request) counts
-request_adds rows (select q) counts = refl
-request_adds rows (change setting) counts = counts_equal _ _ _ _ _ _ (rise_zero counts.seeks) (rise_zero counts.entries) (rise_zero counts.rows)
+request_adds : (settings : Settings) (request : Request) (table : Meaning) (counts : Counts) → counts_after_request settings request table counts ≡ add_counts (reads_of_request settings request table) counts
+request_adds settings (select q) table counts = refl
+request_adds settings (change listed) table counts = counts_equal _ _ _ _ _ _ (rise_zero counts.seeks) (rise_zero counts.entries) (rise_zero counts.rows)
 
 -- so many more, and then a sum over the rest, is the sum over all
-rise_sum : (f : Step → ℕ) (step : Step) (steps : List Step) (n c : ℕ) → n ≡ f step → rise (sum_by f steps) (rise n c) ≡ rise (sum_by f (step ∷ steps)) c
-rise_sum f step steps n c is = rise_twice n (sum_by f steps) c ∙ ap (λ m. rise m c) (ap (λ k. k + sum_by f steps) is ∙ sym (sum_by-cons f step steps))
+rise_sum : (f : Counts → ℕ) (here : Counts) (reads : List Counts) (c : ℕ) → rise (sum_by f reads) (rise (f here) c) ≡ rise (sum_by f (here ∷ reads)) c
+rise_sum f here reads c = rise_twice (f here) (sum_by f reads) c ∙ ap (λ m. rise m c) (sym (sum_by-cons f here reads))
 
-pub counts_are_sums : (rows : ℕ) (steps : List Step) (counts : Counts) → counts_after rows steps counts ≡ add_counts (reads_of_script rows steps) counts
-counts_are_sums rows [] counts = counts_equal _ _ _ _ _ _ (rise_zero counts.seeks) (rise_zero counts.entries) (rise_zero counts.rows)
-counts_are_sums rows (step ∷ steps) counts =
-    let here = reads_of_request rows step.request in
-    ap (counts_after rows steps) (request_adds rows step.request counts)
-    ∙ counts_are_sums rows steps (add_counts here counts)
+pub counts_are_sums : (settings : Settings) (steps : List Step) (table : Meaning) (counts : Counts) → counts_after settings steps table counts ≡ add_counts (summed (reads_from settings steps table)) counts
+counts_are_sums settings [] table counts = counts_equal _ _ _ _ _ _ (rise_zero counts.seeks) (rise_zero counts.entries) (rise_zero counts.rows)
+counts_are_sums settings (step ∷ steps) table counts =
+    let here = reads_of_request settings step.request table in
+    let after = settings_after settings step in
+    let rest = reads_from after steps table in
+    ap (counts_after after steps table) (request_adds settings step.request table counts)
+    ∙ counts_are_sums after steps table (add_counts here counts)
     ∙ counts_equal _ _ _ _ _ _
-    (rise_sum (λ s. (reads_of_request rows s.request).seeks) step steps here.seeks counts.seeks refl)
-    (rise_sum (λ s. (reads_of_request rows s.request).entries) step steps here.entries counts.entries refl)
-    (rise_sum (λ s. (reads_of_request rows s.request).rows) step steps here.rows counts.rows refl)
+    (rise_sum (λ r. r.seeks) here rest counts.seeks)
+    (rise_sum (λ r. r.entries) here rest counts.entries)
+    (rise_sum (λ r. r.rows) here rest counts.rows)

@@ -1,8 +1,9 @@
-mod Blocks
+pub mod Blocks
 mod Choice
 mod Ends
 pub mod Headline
 mod Least
-mod Owed
+pub mod Owed
 pub mod Plain
-mod Scanning
+pub mod Plans
+pub mod Scanning

@@ -1,9 +1,10 @@
 -- What the files of a script owe, read and run.
-use Rattle.std.proofs.Common.{◌≡◌, ℕ, List, Option, Some, Result, Ok, Err, IfErr, IfOk, OnOk, subst, sym, inl, inr, refl, ap, ◌∙◌, length}
+use Rattle.std.proofs.Common.{◌≡◌, ◌≤◌, arith, ℕ, List, Option, Some, Result, Ok, Err, IfErr, IfOk, OnOk, subst, sym, inl, inr, refl, ap, ◌∙◌}
 use Rattle.rx_value.specs.declared.values.Value.{Value}
 use Rattle.rx_value.specs.declared.shapes.Schema.{Schema}
 use Rattle.rx_store.specs.declared.tables.Counts.{Counts}
-use Rattle.rx_store.specs.Stored.{Stored, no_counts}
+use Rattle.rx_store.specs.Stored.{Stored, in_memory, no_counts}
+use Rattle.rx_query.specs.Settings.{default_settings}
 use Rattle.rx_inputs.specs.declared.reading.InputFault.{InputFault}
 use Rattle.rx_inputs.specs.declared.reading.InputFault.TheVariants as fault
 use Rattle.rx_inputs.specs.Checked.{Checked, AcceptsAs}
@@ -15,11 +16,11 @@ use Rattle.rx_tool.specs.declared.stops.Stop.{Stop}
 use Rattle.rx_tool.specs.declared.stops.Stop.TheVariants.{ReadFault, WriteFault, Words, Refused, NoMemory}
 use Rattle.rx_tool.specs.Seen.{SinkSeen}
 use Rattle.rx_tool.specs.Blocks.{blocks_of, counts_after}
-use Rattle.rx_tool.specs.Running.{PutsAll, PutsSome, PutsFront, HasRoom, size_of}
+use Rattle.rx_tool.specs.Running.{Puts, StopsWriting, StopsBetween, HasRoom, size_of}
 use Rattle.rx_tool.specs.Stops.{stop_of}
-use Rattle.rx_tool.specs.Owes.{outcome_of, script_owes, table_after}
+use Rattle.rx_tool.specs.Owes.{outcome_of, script_owes, table_of, table_after}
 use Rattle.rx_tool.specs.Ending.{StopsRun, HasRoomForText}
-use Rattle.rx_tool.specs.Work.{StopsScriptRun, WorkEnds}
+use Rattle.rx_tool.specs.Work.{StopsScript, WorkEnds}
 use Rattle.rx_tool.proofs.Blocks.{Takes-nothing}
 use Rattle.rx_tool.proofs.Headline.{counts_are_sums}
 
@@ -33,36 +34,68 @@ reading_stops (Accepts held) before after sink fault.NoMemory s = (0, Takes-noth
 reading_stops (Refuses refusal) before after sink fault.NoMemory s = (0, Takes-nothing sink.text)
 reading_stops Untold before after sink fault.NoMemory s = tt
 
-script_done : (files : List File) (checked : Checked Held) (held : Held) (before after : ℕ) (old new : SinkSeen) (table : Stored) → AcceptsAs checked held → PutsAll (blocks_of held.steps held.rows) old.text new.text → table ≡ table_after held → WorkEnds (script_owes files checked) before after old new (Ok table)
-script_done files (Accepts mine) held before after old new table e text is =
-    ((refl, subst (λ (h : Held). PutsAll (blocks_of h.steps h.rows) old.text new.text) (sym e) text), (refl, refl, (rw (is, e) refl, refl)))
-script_done files (Refuses refusal) held before after old new table e text is = absurd e
-script_done files Untold held before after old new table e text is = (tt, (refl, refl, tt))
+script_done : (files : List File) (checked : Checked Held) (held : Held) (before after : ℕ) (old new : SinkSeen) (table : Stored) → AcceptsAs checked held → Puts (table_of held) (blocks_of held.steps (table_of held)) old new → table ≡ table_after held → WorkEnds (script_owes files checked) before after old new (Ok table)
+script_done files (Accepts mine) held before after old new table e puts is =
+    let mine_put = subst (λ (h : Held). Puts (table_of h) (blocks_of h.steps (table_of h)) old new) (sym e) puts in
+    ((refl, mine_put.text), (refl, refl, (rw (is, e) refl, refl)))
+script_done files (Refuses refusal) held before after old new table e puts is = absurd e
+script_done files Untold held before after old new table e puts is = (tt, (refl, refl, tt))
 
-script_stops : (files : List File) (checked : Checked Held) (held : Held) (before after : ℕ) (old new : SinkSeen) (stop : Stop) → AcceptsAs checked held → StopsScriptRun held old new stop → WorkEnds (script_owes files checked) before after old new (Err stop)
+script_stops : (files : List File) (checked : Checked Held) (held : Held) (before after : ℕ) (old new : SinkSeen) (stop : Stop) → AcceptsAs checked held → StopsScript held old new stop → WorkEnds (script_owes files checked) before after old new (Err stop)
 script_stops files checked held before after old new ReadFault e s = absurd s
 script_stops files checked held before after old new Words e s = absurd s
 script_stops files checked held before after old new (Refused line) e s = absurd s
-script_stops files (Accepts mine) held before after old new WriteFault e s = (s.0, subst (λ (h : Held). PutsFront (blocks_of h.steps h.rows) old.text new.text) (sym e) s.1)
+script_stops files (Accepts mine) held before after old new WriteFault e s =
+    let mine_stops = subst (λ (h : Held). StopsScript h old new WriteFault) (sym e) s in
+    (mine_stops.rose, mine_stops.front)
 script_stops files (Refuses refusal) held before after old new WriteFault e s = absurd e
-script_stops files Untold held before after old new WriteFault e s = (s.0, tt)
-script_stops files (Accepts mine) held before after old new NoMemory e s = subst (λ (h : Held). PutsSome (blocks_of h.steps h.rows) old.text new.text) (sym e) s
+script_stops files Untold held before after old new WriteFault e s = (s.rose, tt)
+script_stops files (Accepts mine) held before after old new NoMemory e s =
+    let mine_stops = subst (λ (h : Held). StopsScript h old new NoMemory) (sym e) s in
+    mine_stops.some
 script_stops files (Refuses refusal) held before after old new NoMemory e s = absurd e
 script_stops files Untold held before after old new NoMemory e s = tt
 
 -- how the run of an accepted script ends, so does the work
-pub script_ends : (files : List File) (checked : Checked Held) (held : Held) (before after : ℕ) (old new : SinkSeen) (r : Result Stored Stop) → AcceptsAs checked held → OnOk r (PutsAll (blocks_of held.steps held.rows) old.text new.text) → IfOk r (λ table. table ≡ table_after held) → IfErr r (StopsScriptRun held old new) → WorkEnds (script_owes files checked) before after old new r
-script_ends files checked held before after old new (Ok table) e text is stopped = script_done files checked held before after old new table e text is
-script_ends files checked held before after old new (Err stop) e text is stopped = script_stops files checked held before after old new stop e stopped
+pub script_ends : (files : List File) (checked : Checked Held) (held : Held) (before after : ℕ) (old new : SinkSeen) (r : Result Stored Stop) → AcceptsAs checked held → OnOk r (Puts (table_of held) (blocks_of held.steps (table_of held)) old new) → IfOk r (λ table. table ≡ table_after held) → IfErr r (StopsScript held old new) → WorkEnds (script_owes files checked) before after old new r
+script_ends files checked held before after old new (Ok table) e puts is stopped = script_done files checked held before after old new table e puts is
+script_ends files checked held before after old new (Err stop) e puts is stopped = script_stops files checked held before after old new stop e stopped
 
--- where there is room for what is owed, there is room for what was accepted
-pub calm_accepted : (checked : Checked Held) (held : Held) (room : Option ℕ) (faults now : ℕ) → AcceptsAs checked held → (HasRoom room (size_of (blocks_of held.steps held.rows)) → now ≡ faults) → HasRoomForText (outcome_of checked) room → now ≡ faults
-calm_accepted (Accepts mine) held room faults now e calm (inl (none, some)) = absurd (some refl)
-calm_accepted (Accepts mine) held room faults now e calm (inr h) = calm (subst (λ (k : Held). HasRoom room (size_of (blocks_of k.steps k.rows))) e h)
-calm_accepted (Refuses refusal) held room faults now e calm h = absurd e
-calm_accepted Untold held room faults now e calm h = absurd h
+-- where there is room for all blocks of a script, no put fails
+script_stop_calm : (held : Held) (old new : SinkSeen) (stop : Stop) → StopsScript held old new stop → HasRoom old.room (size_of (blocks_of held.steps (table_of held))) → new.faults ≡ old.faults
+script_stop_calm held old new ReadFault s room = absurd s
+script_stop_calm held old new Words s room = absurd s
+script_stop_calm held old new (Refused line) s room = absurd s
+script_stop_calm held old new WriteFault s room = absurd (s.no_room room)
+script_stop_calm held old new NoMemory s room = s.no_fault
 
-abbrev the_table : Schema → List (List Value) → Counts → Stored
+script_calm : (held : Held) (old new : SinkSeen) (r : Result Stored Stop) → OnOk r (Puts (table_of held) (blocks_of held.steps (table_of held)) old new) → IfErr r (StopsScript held old new) → HasRoom old.room (size_of (blocks_of held.steps (table_of held))) → new.faults ≡ old.faults
+script_calm held old new (Ok table) puts stopped room = puts.no_fault
+script_calm held old new (Err stop) puts stopped room = script_stop_calm held old new stop stopped room
+
+script_stop_later : (held : Held) (old new : SinkSeen) (stop : Stop) → StopsScript held old new stop → old.faults ≤ new.faults
+script_stop_later held old new ReadFault s = absurd s
+script_stop_later held old new Words s = absurd s
+script_stop_later held old new (Refused line) s = absurd s
+script_stop_later held old new WriteFault s = s.later
+script_stop_later held old new NoMemory s = let same = s.no_fault in omega (arith, same)
+
+-- and none falls
+pub script_later : (held : Held) (old new : SinkSeen) (r : Result Stored Stop) → OnOk r (Puts (table_of held) (blocks_of held.steps (table_of held)) old new) → IfErr r (StopsScript held old new) → old.faults ≤ new.faults
+script_later held old new (Ok table) puts stopped = let same = puts.no_fault in omega (arith, same)
+script_later held old new (Err stop) puts stopped = script_stop_later held old new stop stopped
+
+room_owed : (checked : Checked Held) (held : Held) (room : Option ℕ) → AcceptsAs checked held → HasRoomForText (outcome_of checked) room → HasRoom room (size_of (blocks_of held.steps (table_of held)))
+room_owed (Accepts mine) held room e (inl (none, some)) = absurd (some refl)
+room_owed (Accepts mine) held room e (inr h) = subst (λ (k : Held). HasRoom room (size_of (blocks_of k.steps (table_of k)))) e h
+room_owed (Refuses refusal) held room e h = absurd e
+room_owed Untold held room e h = absurd h
+
+-- where there is room for what is owed, no put fails
+pub calm_accepted : (checked : Checked Held) (held : Held) (old new : SinkSeen) (r : Result Stored Stop) → AcceptsAs checked held → OnOk r (Puts (table_of held) (blocks_of held.steps (table_of held)) old new) → IfErr r (StopsScript held old new) → HasRoomForText (outcome_of checked) old.room → new.faults ≡ old.faults
+calm_accepted checked held old new r e puts stopped h = script_calm held old new r puts stopped (room_owed checked held old.room e h)
+
+abbrev pub the_table : Schema → List (List Value) → Counts → Stored
 the_table schema rows counts = record { schema = schema; rows = rows; counts = counts }
 
 same_table : (s s' : Schema) (r r' : List (List Value)) (c c' : Counts) → s ≡ s' → r ≡ r' → c ≡ c' → the_table s r c ≡ the_table s' r' c'
@@ -72,9 +105,19 @@ some_same : (xs ys : List (List Value)) → Some xs ≡ Some ys → xs ≡ ys
 some_same xs ys e = cc e
 
 -- a table on which a script ran is the one that is owed
-pub table_so : (old new : Stored) (held : Held) → old ≡ the_table held.schema held.rows no_counts → new.schema ≡ old.schema → Some new.rows ≡ Some old.rows → new.counts ≡ counts_after (length old.rows) held.steps old.counts → new ≡ table_after held
+pub table_so : (old new : Stored) (held : Held) → old ≡ the_table held.schema held.rows no_counts → new.schema ≡ old.schema → Some new.rows ≡ Some old.rows → new.counts ≡ counts_after default_settings held.steps (in_memory old.schema old.rows) old.counts → new ≡ table_after held
 table_so old new held is schema rows counts =
     same_table _ _ _ _ _ _
     (schema ∙ ap (λ (t : Stored). t.schema) is)
     (some_same _ _ rows ∙ ap (λ (t : Stored). t.rows) is)
-    (counts ∙ ap (λ (t : Stored). counts_after (length t.rows) held.steps t.counts) is ∙ counts_are_sums (length held.rows) held.steps no_counts)
+    (counts ∙ ap (λ (t : Stored). counts_after default_settings held.steps (in_memory t.schema t.rows) t.counts) is ∙ counts_are_sums default_settings held.steps (table_of held) no_counts)
+
+-- what is put of the blocks of that table is put of what is owed
+pub puts_held : (t : Stored) (held : Held) (a b : SinkSeen) → t ≡ the_table held.schema held.rows no_counts → Puts (in_memory t.schema t.rows) (blocks_of held.steps (in_memory t.schema t.rows)) a b → Puts (table_of held) (blocks_of held.steps (table_of held)) a b
+puts_held t held a b is = subst (λ (s : Stored). Puts (in_memory s.schema s.rows) (blocks_of held.steps (in_memory s.schema s.rows)) a b) is
+
+pub writing_held : (t : Stored) (held : Held) (a b : SinkSeen) → t ≡ the_table held.schema held.rows no_counts → StopsWriting (in_memory t.schema t.rows) (blocks_of held.steps (in_memory t.schema t.rows)) a b → StopsWriting (table_of held) (blocks_of held.steps (table_of held)) a b
+writing_held t held a b is = subst (λ (s : Stored). StopsWriting (in_memory s.schema s.rows) (blocks_of held.steps (in_memory s.schema s.rows)) a b) is
+
+pub between_held : (t : Stored) (held : Held) (a b : SinkSeen) → t ≡ the_table held.schema held.rows no_counts → StopsBetween (in_memory t.schema t.rows) (blocks_of held.steps (in_memory t.schema t.rows)) a b → StopsBetween (table_of held) (blocks_of held.steps (table_of held)) a b
+between_held t held a b is = subst (λ (s : Stored). StopsBetween (in_memory s.schema s.rows) (blocks_of held.steps (in_memory s.schema s.rows)) a b) is

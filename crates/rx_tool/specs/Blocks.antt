@@ -1,10 +1,9 @@
 -- The blocks of a script, and what its run counts.
-use Rattle.std.specs.Prelude.{ℕ, List, [], ◌∷◌, ◌++◌, length, if◌then◌else◌}
+use Rattle.std.specs.Prelude.{ℕ, List, [], ◌∷◌, ◌++◌, if◌then◌else◌}
 use Rattle.std.specs.List.{sum_by}
-use Rattle.rx_value.specs.declared.values.Value.{Value}
 use Rattle.rx_store.specs.declared.tables.Counts.{Counts}
 use Rattle.rx_store.specs.Stored.{no_counts}
-use Rattle.rx_store.specs.Tables.{add_counts}
+use Rattle.rx_store.specs.Tables.{Meaning, add_counts}
 use Rattle.rx_query.specs.Steps.{Step, Request, Question}
 use Rattle.rx_query.specs.Steps.Request.{select, change}
 use Rattle.rx_query.specs.declared.settings.Settings.{Settings}
@@ -19,54 +18,59 @@ use Rattle.rx_tool.specs.Trace.{trace_line}
 abbrev pub trace_of : Settings → ℕ → List Candidate → ℕ → Counts → List ℕ
 trace_of settings number all place reads = if settings.trace then trace_line number all place 0 reads else []
 
--- the trace of a statement over a table of so many rows
-abbrev pub trace_part : Settings → ℕ → ℕ → List ℕ
-trace_part settings number rows = trace_of settings number (candidates_of rows) (chosen_place (candidates_of rows)) (reads_of rows)
+-- the trace of the statement with this number
+abbrev pub trace_part : Settings → ℕ → Question → Meaning → List ℕ
+trace_part settings number q table =
+    trace_of settings number (candidates_of settings q table) (chosen_place (candidates_of settings q table)) (reads_of settings q table)
 
--- The block of a query: what it answers over the rows in the order in which the chosen candidate reads them, and the trace.
-abbrev pub block_for : Settings → ℕ → Question → List (List Value) → List ℕ
-block_for settings number q rows = block_of (answer q (visited (chosen (length rows)).kind rows)) ++ trace_part settings number (length rows)
+-- The block of a question: what it answers over the rows in the order in which the chosen candidate reads them, and the trace.
+abbrev pub block_for : Settings → ℕ → Question → Meaning → List ℕ
+block_for settings number q table = block_of (answer q (visited (chosen settings q table) table)) ++ trace_part settings number q table
 
 -- what a request puts, as the statement of this number
-abbrev pub blocks_of_request : Settings → ℕ → Request → List (List Value) → List (List ℕ)
-blocks_of_request settings number (select q) rows = block_for settings number q rows ∷ []
-blocks_of_request settings number (change setting) rows = []
+abbrev pub blocks_of_request : Settings → ℕ → Request → Meaning → List (List ℕ)
+blocks_of_request settings number (select q) table = block_for settings number q table ∷ []
+blocks_of_request settings number (change listed) table = []
 
 -- what a step puts
-abbrev pub blocks_of_step : Settings → Step → List (List Value) → List (List ℕ)
-blocks_of_step settings step rows = blocks_of_request settings step.number step.request rows
+abbrev pub blocks_of_step : Settings → Step → Meaning → List (List ℕ)
+blocks_of_step settings step table = blocks_of_request settings step.number step.request table
 
 -- the blocks of the steps in order, the first one under these settings
-abbrev pub blocks_from : Settings → List Step → List (List Value) → List (List ℕ)
-blocks_from settings [] rows = []
-blocks_from settings (step ∷ steps) rows = blocks_of_step settings step rows ++ blocks_from (settings_after settings step) steps rows
+abbrev pub blocks_from : Settings → List Step → Meaning → List (List ℕ)
+blocks_from settings [] table = []
+blocks_from settings (step ∷ steps) table = blocks_of_step settings step table ++ blocks_from (settings_after settings step) steps table
 
 -- the blocks of a script
-abbrev pub blocks_of : List Step → List (List Value) → List (List ℕ)
-blocks_of steps rows = blocks_from default_settings steps rows
+abbrev pub blocks_of : List Step → Meaning → List (List ℕ)
+blocks_of steps table = blocks_from default_settings steps table
 
--- what a request reads of a table of so many rows
-abbrev pub reads_of_request : ℕ → Request → Counts
-reads_of_request n (select q) = reads_of n
-reads_of_request n (change setting) = no_counts
+-- what a request reads
+abbrev pub reads_of_request : Settings → Request → Meaning → Counts
+reads_of_request settings (select q) table = reads_of settings q table
+reads_of_request settings (change listed) table = no_counts
+
+-- what each of the steps reads, the first one under these settings
+abbrev pub reads_from : Settings → List Step → Meaning → List Counts
+reads_from settings [] table = []
+reads_from settings (step ∷ steps) table =
+    reads_of_request settings step.request table ∷ reads_from (settings_after settings step) steps table
+
+-- the sums of counts
+abbrev pub summed : List Counts → Counts
+summed reads = record { seeks = sum_by (λ r. r.seeks) reads; entries = sum_by (λ r. r.entries) reads; rows = sum_by (λ r. r.rows) reads }
 
 -- what the steps of a script read, summed
-abbrev pub reads_of_script : ℕ → List Step → Counts
-reads_of_script n steps = record {
-  seeks = sum_by (λ step. (reads_of_request n step.request).seeks) steps;
-  entries = sum_by (λ step. (reads_of_request n step.request).entries) steps;
-  rows = sum_by (λ step. (reads_of_request n step.request).rows) steps;
-}
+abbrev pub reads_of_script : List Step → Meaning → Counts
+reads_of_script steps table = summed (reads_from default_settings steps table)
 
--- the counts of a table of so many rows after a request
-abbrev pub counts_after_request : ℕ → Request → Counts → Counts
-counts_after_request n (select q) counts = add_counts (reads_of n) counts
-counts_after_request n (change setting) counts = counts
+-- the counts of a table after a request
+abbrev pub counts_after_request : Settings → Request → Meaning → Counts → Counts
+counts_after_request settings (select q) table counts = add_counts (reads_of settings q table) counts
+counts_after_request settings (change listed) table counts = counts
 
-abbrev pub counts_after_step : ℕ → Step → Counts → Counts
-counts_after_step n step counts = counts_after_request n step.request counts
-
--- the counts of a table of so many rows after a script
-abbrev pub counts_after : ℕ → List Step → Counts → Counts
-counts_after n [] counts = counts
-counts_after n (step ∷ steps) counts = counts_after n steps (counts_after_step n step counts)
+-- the counts of a table after steps, the first one under these settings
+abbrev pub counts_after : Settings → List Step → Meaning → Counts → Counts
+counts_after settings [] table counts = counts
+counts_after settings (step ∷ steps) table counts =
+    counts_after (settings_after settings step) steps table (counts_after_request settings step.request table counts)

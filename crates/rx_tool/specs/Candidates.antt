@@ -3,6 +3,9 @@ use Rattle.std.specs.Prelude.{ℕ, suc, ◌+◌, ◌*◌, ◌/◌, ◌<◌, ◌�
 use Rattle.std.specs.List.{list_all}
 use Rattle.rx_value.specs.declared.values.Value.{Value}
 use Rattle.rx_store.specs.declared.tables.Counts.{Counts}
+use Rattle.rx_store.specs.Tables.{Meaning, rows_in}
+use Rattle.rx_query.specs.Steps.{Question}
+use Rattle.rx_query.specs.declared.settings.Settings.{Settings}
 use Rattle.rx_tool.specs.declared.candidates.Kind.{Kind}
 use Rattle.rx_tool.specs.declared.candidates.Kind.TheVariants.{Table}
 use Rattle.rx_tool.specs.declared.candidates.Candidate.{Candidate}
@@ -11,14 +14,15 @@ use Rattle.rx_tool.specs.declared.candidates.Candidate.{Candidate}
 abbrev pub table_cost : ℕ → ℕ
 table_cost rows = 20 * (1 + rows / 50) + 2 * rows
 
--- the scan of a table of so many rows
-abbrev pub table_scan : ℕ → Candidate
-table_scan rows = record { kind = Table; cost = table_cost rows; rows = rows; index_only = false }
+-- the scan of a whole table
+abbrev pub table_scan : Meaning → Candidate
+table_scan table = record { kind = Table; scans = []; cost = table_cost table.count; rows = table.count; index_only = false }
 
--- all candidates in order, over a table of so many rows
-abbrev pub candidates_of : ℕ → List Candidate
-candidates_of rows = table_scan rows ∷ []
+-- all candidates of a question in order
+abbrev pub candidates_of : Settings → Question → Meaning → List Candidate
+candidates_of settings q table = table_scan table ∷ []
 
+-- what a candidate costs
 abbrev pub cost_of : Candidate → ℕ
 cost_of candidate = candidate.cost
 
@@ -37,18 +41,26 @@ least_place (cost ∷ costs) = if list_all (λ c. nat_le cost c) costs then 0 el
 abbrev pub chosen_place : List Candidate → ℕ
 chosen_place all = least_place (map cost_of all)
 
--- the chosen candidate over a table of so many rows
-abbrev pub chosen : ℕ → Candidate
-chosen rows = slice_index_or (candidates_of rows) (chosen_place (candidates_of rows)) (table_scan rows)
+-- the chosen candidate of a question
+abbrev pub chosen : Settings → Question → Meaning → Candidate
+chosen settings q table = slice_index_or (candidates_of settings q table) (chosen_place (candidates_of settings q table)) (table_scan table)
 
--- what is read of a table of so many rows: a table scan reads each row once
-abbrev pub visits : Kind → ℕ → Counts
-visits Table rows = record { seeks = 0; entries = 0; rows = rows }
+-- what a kind of candidate reads: a table scan reads each row once
+abbrev pub visits_of : Kind → Candidate → Meaning → Counts
+visits_of Table candidate table = record { seeks = 0; entries = 0; rows = table.count }
 
--- the rows in the order in which they are read
-abbrev pub visited : Kind → List (List Value) → List (List Value)
-visited Table rows = rows
+-- what a candidate reads
+abbrev pub visits : Candidate → Meaning → Counts
+visits candidate table = visits_of candidate.kind candidate table
+
+-- the rows in the order of a kind of candidate: a table scan reads them in the order of their ids
+abbrev pub visited_of : Kind → Candidate → Meaning → List (List Value)
+visited_of Table candidate table = rows_in table
+
+-- the rows in the order in which a candidate reads them
+abbrev pub visited : Candidate → Meaning → List (List Value)
+visited candidate table = visited_of candidate.kind candidate table
 
 -- what the chosen candidate reads
-abbrev pub reads_of : ℕ → Counts
-reads_of rows = visits (chosen rows).kind rows
+abbrev pub reads_of : Settings → Question → Meaning → Counts
+reads_of settings q table = visits (chosen settings q table) table

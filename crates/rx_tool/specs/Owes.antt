@@ -1,8 +1,8 @@
 -- What a command owes, from its words and what the files tell.
-use Rattle.std.specs.Prelude.{ℕ, Bool, true, false, List, [], length, Option, Some, None}
+use Rattle.std.specs.Prelude.{ℕ, Bool, true, false, List, [], Option, Some, None}
 use Rattle.std.specs.List.{concat}
-use Rattle.rx_store.specs.Stored.{Stored, no_counts}
-use Rattle.rx_store.specs.Tables.{add_counts}
+use Rattle.rx_store.specs.Stored.{Stored, in_memory, no_counts}
+use Rattle.rx_store.specs.Tables.{Meaning, add_counts}
 use Rattle.rx_inputs.specs.Refusals.{Refusal, words}
 use Rattle.rx_inputs.specs.Checked.{Checked}
 use Rattle.rx_inputs.specs.Checked.Checked.{Accepts, Refuses, Untold}
@@ -28,13 +28,19 @@ output outcome = concat outcome.blocks
 abbrev pub refused : Refusal → Outcome
 refused refusal = record { blocks = []; first = None; second = None; refusal = Some refusal }
 
--- the table on which a script ran: its counts are what was read, summed over the script
+-- the table of accepted inputs
+abbrev pub table_of : Held → Meaning
+table_of held = in_memory held.schema held.rows
+
+-- that table when its script ran: its counts are what was read, summed over the script
 abbrev pub table_after : Held → Stored
-table_after held = record { schema = held.schema; rows = held.rows; counts = add_counts (reads_of_script (length held.rows) held.steps) no_counts }
+table_after held =
+    record { schema = held.schema; rows = held.rows; counts = add_counts (reads_of_script held.steps (table_of held)) no_counts }
 
 -- an accepted script is run whole over its table, which is handed back
 abbrev pub script_run : Held → Outcome
-script_run held = record { blocks = blocks_of held.steps held.rows; first = Some (table_after held); second = None; refusal = None }
+script_run held =
+    record { blocks = blocks_of held.steps (table_of held); first = Some (table_after held); second = None; refusal = None }
 
 -- what comes of a script, where its files are told
 abbrev pub outcome_of : Checked Held → Option Outcome

@@ -1,12 +1,14 @@
--- The plan of a query.
-use Rattle.std.specs.Prelude.{◌≡◌, ℕ, ◌<◌, length}
+-- The plan of a question.
+use Rattle.std.specs.Prelude.{◌≡◌, ◌<◌, List, Some, length, slice_get}
+use Rattle.rx_store.specs.Tables.{Meaning}
+use Rattle.rx_tool.specs.declared.candidates.Candidate.{Candidate}
 use Rattle.rx_tool.specs.declared.engine.Plan.{Plan}
-use Rattle.rx_tool.specs.Candidates.{candidates_of, chosen_place, chosen, reads_of}
+use Rattle.rx_tool.specs.Candidates.{chosen_place, visits}
 
--- the defined candidates over a table of so many rows, the first of least cost, and what it reads
-pub record IsPlan (rows : ℕ) (plan : Plan) : Type 0 where
-  pub listed : plan.all.items ≡ candidates_of rows
-  pub place : plan.chosen ≡ chosen_place (candidates_of rows)
-  pub within : plan.chosen < length plan.all.items
-  pub way : plan.kind ≡ (chosen rows).kind
-  pub read : plan.reads ≡ reads_of rows
+-- a plan lists these candidates; at the place of the first of least cost stands this one, and the reads are what it reads
+pub record IsPlan (all : List Candidate) (candidate : Candidate) (table : Meaning) (plan : Plan) : Type 0 where
+  pub listed : plan.all ≡ all
+  pub place : plan.chosen ≡ chosen_place all
+  pub within : plan.chosen < length plan.all
+  pub there : slice_get plan.all plan.chosen ≡ Some candidate
+  pub read : plan.reads ≡ visits candidate table

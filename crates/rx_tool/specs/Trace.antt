@@ -1,12 +1,11 @@
 -- The line of a trace, in compact JSON whose members stand in the order of their names.
-use Rattle.std.specs.Prelude.{ℕ, ◌+◌, List, [], ◌∷◌, ◌++◌, codes, slice_index_or}
+use Rattle.std.specs.Prelude.{ℕ, ◌+◌, List, [], ◌∷◌, ◌++◌, codes, slice_get, Option, Some, None}
 use Rattle.serde_json.specs.Data.{Data, null, boolean, number, string, array, object, no_items, member, no_members, unsigned}
 use Rattle.serde_json.specs.Written.{compact_text}
 use Rattle.rx_store.specs.declared.tables.Counts.{Counts}
 use Rattle.rx_tool.specs.declared.candidates.Kind.{Kind}
 use Rattle.rx_tool.specs.declared.candidates.Kind.TheVariants.{Table}
 use Rattle.rx_tool.specs.declared.candidates.Candidate.{Candidate}
-use Rattle.rx_tool.specs.Candidates.{table_scan}
 
 abbrev pub whole : ℕ → Data
 whole n = number (unsigned n)
@@ -28,9 +27,10 @@ candidate_data candidate n = object (
     member (codes "scans") nothing (
     member (codes "type") (string (name_of_kind candidate.kind)) no_members))))))
 
--- the chosen candidate with its number
-abbrev pub summary_data : Candidate → ℕ → Data
-summary_data candidate n = object (
+-- the chosen candidate, where it is one, with its number
+abbrev pub summary_data : Option Candidate → ℕ → Data
+summary_data None n = null
+summary_data (Some candidate) n = object (
     member (codes "cost") (whole candidate.cost) (
     member (codes "n") (whole n) (
     member (codes "type") (string (name_of_kind candidate.kind)) no_members)))
@@ -60,13 +60,18 @@ reads_data dive_seeks reads = object (
     member (codes "rows") (whole reads.rows) (
     member (codes "seeks") (whole reads.seeks) no_members))))
 
+-- the four members of a trace
+abbrev pub trace_object : ℕ → Data → Data → Data → Data
+trace_object statement summary analysis reads = object (
+    member (codes "chosen_range_access_summary") summary (
+    member (codes "range_analysis") analysis (
+    member (codes "reads") reads (
+    member (codes "statement") (whole statement) no_members))))
+
 -- the candidates of a statement, the place of the chosen one, and what was read
 unfoldable pub trace_data : ℕ → List Candidate → ℕ → ℕ → Counts → Data
-trace_data statement all place dive_seeks reads = object (
-    member (codes "chosen_range_access_summary") (summary_data (slice_index_or all place (table_scan 0)) (place + 1)) (
-    member (codes "range_analysis") (analysis_data all) (
-    member (codes "reads") (reads_data dive_seeks reads) (
-    member (codes "statement") (whole statement) no_members))))
+trace_data statement all place dive_seeks reads =
+    trace_object statement (summary_data (slice_get all place) (place + 1)) (analysis_data all) (reads_data dive_seeks reads)
 
 -- the line of a trace
 unfoldable pub trace_line : ℕ → List Candidate → ℕ → ℕ → Counts → List ℕ

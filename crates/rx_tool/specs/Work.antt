@@ -1,6 +1,5 @@
 -- The work of a command, before its run tells how it ended.
 use Rattle.std.specs.Prelude.{◌≡◌, ℕ, ◌≤◌, Some, None, Result, Ok, Err}
-use Rattle.rx_value.specs.Counting.{Rose}
 use Rattle.rx_store.specs.Stored.{Stored}
 use Rattle.rx_outside.specs.Files.{TakesUpTo}
 use Rattle.rx_inputs.specs.Files.{Held}
@@ -10,17 +9,17 @@ use Rattle.rx_tool.specs.declared.stops.Stop.{Stop}
 use Rattle.rx_tool.specs.declared.stops.Stop.TheVariants.{ReadFault, WriteFault, Words, Refused, NoMemory}
 use Rattle.rx_tool.specs.Seen.{FilesSeen, SinkSeen}
 use Rattle.rx_tool.specs.Blocks.{blocks_of}
-use Rattle.rx_tool.specs.Running.{PutsSome, PutsFront}
-use Rattle.rx_tool.specs.Owes.{Owes}
+use Rattle.rx_tool.specs.Running.{StopsWriting, StopsBetween}
+use Rattle.rx_tool.specs.Owes.{Owes, table_of}
 use Rattle.rx_tool.specs.Ending.{PutsWhole, StopsRun, Hands, HasRoomForText}
 
 -- why the run of an accepted script stops
-abbrev pub StopsScriptRun : Held → SinkSeen → SinkSeen → Stop → Type 0
-StopsScriptRun held old new ReadFault = ⊥
-StopsScriptRun held old new WriteFault = Rose old.faults new.faults × PutsFront (blocks_of held.steps held.rows) old.text new.text
-StopsScriptRun held old new Words = ⊥
-StopsScriptRun held old new (Refused line) = ⊥
-StopsScriptRun held old new NoMemory = PutsSome (blocks_of held.steps held.rows) old.text new.text
+abbrev pub StopsScript : Held → SinkSeen → SinkSeen → Stop → Type 0
+StopsScript held old new ReadFault = ⊥
+StopsScript held old new WriteFault = StopsWriting (table_of held) (blocks_of held.steps (table_of held)) old new
+StopsScript held old new Words = ⊥
+StopsScript held old new (Refused line) = ⊥
+StopsScript held old new NoMemory = StopsBetween (table_of held) (blocks_of held.steps (table_of held)) old new
 
 -- the work is done, and hands back this table; or it stops
 abbrev pub WorkEnds : Owes → (before after : ℕ) (old new : SinkSeen) → Result Stored Stop → Type 0

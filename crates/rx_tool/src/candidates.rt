@@ -1,26 +1,67 @@
-ghost use Rattle.std.specs.Prelude.{◌≡◌, ◌≤◌, ◌<◌, IfOk, length, map};
+ghost use Rattle.std.specs.Prelude.{◌≡◌, ◌≤◌, ◌<◌, ◌∷◌, [], IfOk, length, map};
 ghost use Rattle.rx_value.specs.Limits.{most_rows};
-ghost use Rattle.rx_tool.specs.Candidates.{table_cost, candidates_of, cost_of, IsFirstLeast, visits};
-ghost use Rattle.rx_tool.specs.declared.candidates.Candidate.{Candidate as candidate_record};
+ghost use Rattle.rx_tool.specs.Candidates.{table_cost, table_scan, cost_of, IsFirstLeast, visits};
 
-use rx_store::Counts;
+use rx_store::{Counts, Table};
+use rx_value::{List, RangeList};
 use std::alloc::{AllocError, Global};
 
 /// How a candidate reads the rows.
-#[derive(Clone, Copy)]
+#[derive(Clone, Copy, Drop)]
 pub(crate) enum Kind {
     /// Every row, in the order of the ids.
     Table,
 }
 
-/// A way to answer a query, with its cost and the rows that it is taken to give.
-#[derive(Clone, Copy)]
+/// What a scan of an index is for.
+#[derive(Clone, Copy, Drop)]
+pub(crate) enum Role {
+    /// All entries, without ranges.
+    Whole,
+    /// The groups of a loose scan, without ranges.
+    Group,
+    /// One of its constant parts.
+    Constant,
+    /// A part before those that a skip scan skips.
+    Prefix,
+    /// The part behind them.
+    Skip,
+    /// The entries in the ranges.
+    Scan,
+    /// Row ids in ranges of the primary key, which others are met with.
+    Filter,
+}
+
+/// A scan of an index.
+#[derive(Drop)]
+pub(crate) struct Scan {
+    /// The number of the index, from 0.
+    pub index: u32,
+    pub role: Role,
+    /// Which disjunct it answers, from 1; 1 where there is one.
+    pub member: u32,
+    pub ranges: RangeList,
+    /// Whether the rows were counted by seeks.
+    pub dives: bool,
+    /// The rows that it is taken to give.
+    pub rows: u64,
+}
+
+/// The scans of a candidate in order.
+pub(crate) type ScanList = List<Scan>;
+
+/// A way to answer a question, with its cost and the rows that it is taken to give.
+#[derive(Drop)]
 pub(crate) struct Candidate {
     pub kind: Kind,
+    pub scans: ScanList,
     pub cost: u64,
     pub rows: u64,
     pub index_only: bool,
 }
+
+/// Candidates in order.
+pub(crate) type CandidateList = List<Candidate>;
 
 /// The cost of reading a table of so many rows.
 fn table_cost(rows: u64) -> u64
@@ -30,14 +71,15 @@ fn table_cost(rows: u64) -> u64
     20 * (1 + rows / 50) + 2 * rows
 }
 
-/// The ways to answer a query over a table of so many rows, in order. The error is want of memory.
-pub(crate) fn candidates(alloc: Global, rows: u64) -> Result<Vec<Candidate>, AllocError>
-    requires { rows ≤ most_rows }
-    ensures { IfOk result (λ v. v.items ≡ candidates_of rows) }
+/// The ways to answer a question, in order: the scan of the table. The error is want of memory.
+pub(crate) fn candidates<T: Table>(alloc: Global, table: &T) -> Result<CandidateList, AllocError>
+    ensures { IfOk result (λ all. all ≡ table_scan (T.means table.now) ∷ []) }
 {
-    let mut all = Vec::new(alloc);
+    let rows = table.rows();
+    let mut all = CandidateList::new(alloc);
     all.push(Candidate {
         kind: Kind::Table,
+        scans: ScanList::new(alloc),
         cost: table_cost(rows),
         rows,
         index_only: false,
@@ -59,15 +101,15 @@ pub(crate) fn choose(all: &[Candidate]) -> usize
     best
 }
 
-/// What a candidate reads of a table of so many rows.
-pub(crate) fn visits(kind: Kind, rows: u64) -> Counts
-    ensures { result ≡ visits kind rows }
+/// What a candidate reads.
+pub(crate) fn visits<T: Table>(candidate: &Candidate, table: &T) -> Counts
+    ensures { result ≡ visits candidate.now (T.means table.now) }
 {
-    match kind {
+    match candidate.kind {
         Kind::Table => Counts {
             seeks: 0,
             entries: 0,
-            rows,
+            rows: table.rows(),
         },
     }
 }

@@ -1,20 +1,19 @@
-ghost use Rattle.std.specs.Prelude.{◌≡◌, ◌≢◌, ◌≤◌, ℕ, true, Some, ◌<◌, ◌++◌, IfOk, IfErr, IfSome, OnOk, IsErrOf, length};
-ghost use Rattle.rx_store.specs.Tables.{Caused, Keeps, with_rows, add_counts};
-ghost use Rattle.rx_outside.specs.Causes.{Rose};
-ghost use Rattle.rx_outside.specs.Sink.{LeavesRoom};
+ghost use Rattle.std.specs.Prelude.{◌≡◌, ◌∷◌, [], ◌++◌, None, Some, IfOk, IfErr, IfSome, OnOk, length, slice_get, ◌<◌};
+ghost use Rattle.rx_store.specs.Tables.{Keeps, WhereTold, with_rows, add_counts};
 ghost use Rattle.rx_query.specs.Steps.{question_of};
-ghost use Rattle.rx_value.specs.Limits.{most_rows};
-ghost use Rattle.rx_tool.specs.Printed.{PrintsAnswer};
-ghost use Rattle.rx_tool.specs.Select.{IsBlock, IsAnswerOf, TakesBlock, TakesFrontOfBlock, BlockIsCalm, BlockLeavesRoom, Untouched, table_fault, select_fault};
-ghost use Rattle.rx_tool.specs.Candidates.{visits, reads_of};
-ghost use Rattle.rx_tool.specs.Blocks.{trace_of};
+ghost use Rattle.rx_tool.specs.Seen.{sink_seen};
+ghost use Rattle.rx_tool.specs.Candidates.{table_scan, visits, reads_of};
+ghost use Rattle.rx_tool.specs.Blocks.{block_for, trace_of};
 ghost use Rattle.rx_tool.specs.Plan.{IsPlan};
+ghost use Rattle.rx_tool.specs.Printed.{PrintsAnswer};
+ghost use Rattle.rx_tool.specs.Running.{Puts, Stops};
+ghost use Rattle.rx_tool.specs.Select.{IsAnswerBy, table_fault, select_fault};
 
-use crate::candidates::{Candidate, Kind, candidates, choose, visits};
+use crate::candidates::{Candidate, CandidateList, Kind, candidates, choose, visits};
 use crate::printing::{Printed, print_if_selected};
 use crate::traces::{Traced, print_trace};
 use rx_outside::{Sink, write_all};
-use rx_query::{Query, Settings};
+use rx_query::{Select, Settings};
 use rx_rows::print_footer;
 use rx_store::{Counts, Table, TableFault};
 use rx_value::Bytes;
@@ -31,24 +30,24 @@ pub(crate) enum SelectFault {
 
 /// Answers the query of the statement with this number over a table, by its first candidate of least cost,
 /// and puts its block. All reads come before the first put.
+#[tactic(auto, using(crate::proofs::Blocks::puts_block, crate::proofs::Blocks::cut_block, crate::proofs::Blocks::stops_untouched, crate::proofs::Blocks::table_fault_of))]
 pub(crate) fn select<T: Table, O: Sink>(
     alloc: Global,
     number: u64,
-    query: &Query,
+    query: &Select,
     settings: Settings,
     table: &mut T,
     out: &mut O,
 ) -> Result<(), SelectFault>
-    ensures block { OnOk result (TakesBlock settings number (question_of query.now) (T.means table.old).rows (O.text out.old) (O.text out.new)) }
-    ensures counts { OnOk result ((T.tally table.new).counts ≡ add_counts (reads_of (T.means table.old).count) (T.tally table.old).counts) }
-    ensures cause { IfErr result (λ f. IfSome (table_fault f) (Caused T.means T.tally table.old table.new)) }
-    ensures untouched { IfErr result (λ f. IfSome (table_fault f) (λ _. Untouched O.text O.faults O.room out.old out.new)) }
-    ensures write { IsErrOf result SelectFault.WriteFault → Rose (O.faults out.old) (O.faults out.new) × TakesFrontOfBlock settings number (question_of query.now) (T.means table.old).rows (O.text out.old) (O.text out.new) }
-    ensures calm { BlockIsCalm settings number (question_of query.now) (T.means table.old).rows (O.room out.old) (O.faults out.old) (O.faults out.new) }
-    ensures room { OnOk result (BlockLeavesRoom settings number (question_of query.now) (T.means table.old).rows (O.room out.old) (O.room out.new)) }
-    ensures out_later { O.faults out.old ≤ O.faults out.new }
-    ensures keeps { Keeps T.means T.tally T.kept table.old table.new }
-    ensures spent { OnOk result (T.spent table.old table.new) }
+    ensures puts { OnOk result (Puts (T.means table.old) (block_for settings number (question_of query.now) (T.means table.old) ∷ [])
+        (sink_seen O.text O.faults O.room out.old) (sink_seen O.text O.faults O.room out.new)) }
+    ensures stopped { IfErr result (Stops (T.means table.old) (block_for settings number (question_of query.now) (T.means table.old) ∷ [])
+        (sink_seen O.text O.faults O.room out.old) (sink_seen O.text O.faults O.room out.new)) }
+    ensures untouched { IfErr result (λ f. IfSome (table_fault f) (λ _. out.new ≡ out.old)) }
+    ensures counts { OnOk result
+        ((T.tally table.new).counts ≡ add_counts (reads_of settings (question_of query.now) (T.means table.old)) (T.tally table.old).counts) }
+    ensures keeps { OnOk result (Keeps T.means T.tally T.leaves None table.old table.new) }
+    ensures cause { IfErr result (λ f. Keeps T.means T.tally T.leaves (table_fault f) table.old table.new) }
 {
     let text = match block(alloc, number, query, settings, table) {
         Ok(text) => text,
@@ -71,24 +70,25 @@ fn fault_of(fault: TableFault) -> SelectFault
 }
 
 // The block of a statement: the lines of its rows and how many they are, and its trace where that is on.
+#[tactic(auto, using(crate::proofs::Plans::planned_block, crate::proofs::Plans::scan_chosen))]
 fn block<T: Table>(
     alloc: Global,
     number: u64,
-    query: &Query,
+    query: &Select,
     settings: Settings,
     table: &mut T,
 ) -> Result<Bytes, TableFault>
-    ensures told { IfOk result (IsBlock settings number (question_of query.now) (T.means table.old).rows) }
-    ensures counts { OnOk result ((T.tally table.new).counts ≡ add_counts (reads_of (T.means table.old).count) (T.tally table.old).counts) }
-    ensures cause { IfErr result (Caused T.means T.tally table.old table.new) }
-    ensures keeps { Keeps T.means T.tally T.kept table.old table.new }
-    ensures spent { OnOk result (T.spent table.old table.new) }
+    ensures told { IfOk result (λ text.
+        WhereTold (T.means table.old) (text ≡ block_for settings number (question_of query.now) (T.means table.old))) }
+    ensures counts { OnOk result
+        ((T.tally table.new).counts ≡ add_counts (reads_of settings (question_of query.now) (T.means table.old)) (T.tally table.old).counts) }
+    ensures keeps { OnOk result (Keeps T.means T.tally T.leaves None table.old table.new) }
+    ensures cause { IfErr result (λ f. Keeps T.means T.tally T.leaves (Some f) table.old table.new) }
 {
-    let rows = table.rows();
-    let Ok(plan) = make_plan(alloc, rows) else {
+    let Ok(plan) = make_plan(alloc, table) else {
         return Err(TableFault::NoMemory);
     };
-    let mut text = match run_plan(alloc, plan.kind, query, table) {
+    let mut text = match run_candidate(alloc, plan.candidate(), query, table) {
         Ok(text) => text,
         Err(fault) => return Err(fault),
     };
@@ -98,45 +98,51 @@ fn block<T: Table>(
     Ok(text)
 }
 
-/// The candidates of a query, the place and kind of the chosen one, and what that reads.
+/// The candidates of a question, the place of the chosen one, and what that reads.
 #[derive(Drop)]
 struct Plan {
-    all: Vec<Candidate>,
+    all: CandidateList,
     chosen: usize,
-    kind: Kind,
     reads: Counts,
 }
 
-// The plan of a query over a table of so many rows. The error is want of memory.
-fn make_plan(alloc: Global, rows: u64) -> Result<Plan, AllocError>
-    requires { rows ≤ most_rows }
-    ensures { IfOk result (IsPlan rows) }
-{
-    let all = candidates(alloc, rows)?;
-    let chosen = choose(all.as_slice());
-    let kind = all[chosen].kind;
-    Ok(Plan {
-        all,
-        chosen,
-        kind,
-        reads: visits(kind, rows),
-    })
+impl Plan {
+    // The chosen candidate.
+    #[tactic(auto, using(crate::proofs::Plans::there))]
+    fn candidate(&self) -> &Candidate
+        requires { self.now.chosen < length self.now.all }
+        ensures { slice_get self.now.all self.now.chosen ≡ Some result.now }
+    {
+        &self.all.as_slice()[self.chosen]
+    }
 }
 
-// The lines of a query's rows and how many they are, read in this way.
-fn run_plan<T: Table>(
+// The plan of a question. The error is want of memory.
+#[tactic(auto, using(crate::proofs::Plans::scan_plan))]
+fn make_plan<T: Table>(alloc: Global, table: &T) -> Result<Plan, AllocError>
+    ensures { IfOk result (IsPlan (table_scan (T.means table.now) ∷ []) (table_scan (T.means table.now)) (T.means table.now)) }
+{
+    let all = candidates(alloc, table)?;
+    let chosen = choose(all.as_slice());
+    let reads = visits(&all.as_slice()[chosen], table);
+    Ok(Plan { all, chosen, reads })
+}
+
+// The lines of a query's rows and how many they are, read in the way of a candidate.
+#[tactic(auto, using(crate::proofs::Scanning::scan_answers))]
+fn run_candidate<T: Table>(
     alloc: Global,
-    kind: Kind,
-    query: &Query,
+    candidate: &Candidate,
+    query: &Select,
     table: &mut T,
 ) -> Result<Bytes, TableFault>
-    ensures told { IfOk result (IsAnswerOf kind (question_of query.now) (T.means table.old).rows) }
-    ensures counts { OnOk result ((T.tally table.new).counts ≡ add_counts (visits kind (T.means table.old).count) (T.tally table.old).counts) }
-    ensures cause { IfErr result (Caused T.means T.tally table.old table.new) }
-    ensures keeps { Keeps T.means T.tally T.kept table.old table.new }
-    ensures spent { OnOk result (T.spent table.old table.new) }
+    ensures told { IfOk result (IsAnswerBy candidate.now (question_of query.now) (T.means table.old)) }
+    ensures counts { OnOk result
+        ((T.tally table.new).counts ≡ add_counts (visits candidate.now (T.means table.old)) (T.tally table.old).counts) }
+    ensures keeps { OnOk result (Keeps T.means T.tally T.leaves None table.old table.new) }
+    ensures cause { IfErr result (λ f. Keeps T.means T.tally T.leaves (Some f) table.old table.new) }
 {
-    let Printed { mut text, rows } = match kind {
+    let Printed { mut text, rows } = match candidate.kind {
         Kind::Table => print_answer(alloc, query, table)?,
     };
     let Ok(()) = print_footer(rows, &mut text) else {
@@ -153,8 +159,8 @@ fn print_plan(
     plan: &Plan,
     into: &mut Bytes,
 ) -> Result<(), AllocError>
-    requires { plan.now.chosen < length plan.now.all.items }
-    ensures { OnOk result (into.new ≡ into.old ++ trace_of settings number plan.now.all.items plan.now.chosen plan.now.reads) }
+    requires { plan.now.chosen < length plan.now.all }
+    ensures { OnOk result (into.new ≡ into.old ++ trace_of settings number plan.now.all plan.now.chosen plan.now.reads) }
 {
     if !settings.trace {
         return Ok(());
@@ -172,14 +178,13 @@ fn print_plan(
 // The lines of a query's rows, read by a scan of the table.
 fn print_answer<T: Table>(
     alloc: Global,
-    query: &Query,
+    query: &Select,
     table: &mut T,
 ) -> Result<Printed, TableFault>
     ensures told { IfOk result (PrintsAnswer (question_of query.now) (T.means table.old).rows) }
     ensures counts { OnOk result ((T.tally table.new).counts ≡ with_rows (T.means table.old).count (T.tally table.old).counts) }
-    ensures cause { IfErr result (Caused T.means T.tally table.old table.new) }
-    ensures keeps { Keeps T.means T.tally T.kept table.old table.new }
-    ensures spent { OnOk result (T.spent table.old table.new) }
+    ensures keeps { OnOk result (Keeps T.means T.tally T.leaves None table.old table.new) }
+    ensures cause { IfErr result (λ f. Keeps T.means T.tally T.leaves (Some f) table.old table.new) }
 {
     let mut printed = Printed {
         text: Bytes::new(alloc),

@@ -4,7 +4,7 @@ ghost use Rattle.rx_query.specs.Steps.{question_of};
 ghost use Rattle.rx_rows.specs.Answer.{answer};
 ghost use Rattle.rx_tool.specs.Printed.{Adds};
 
-use rx_query::Query;
+use rx_query::Select;
 use rx_rows::{is_selected, print_projected, project};
 use rx_value::{Bytes, Row};
 use std::alloc::AllocError;
@@ -18,7 +18,7 @@ pub(crate) struct Printed {
 
 /// Adds the line of a row where the query selects it. The error is want of memory.
 pub(crate) fn print_if_selected(
-    query: &Query,
+    query: &Select,
     row: &Row,
     printed: &mut Printed,
 ) -> Result<(), AllocError>
@@ -28,7 +28,7 @@ pub(crate) fn print_if_selected(
     if !is_selected(&query.cond, row) {
         return Ok(());
     }
-    print_projected(&project(query.columns.as_slice(), row), &mut printed.text)?;
+    print_projected(&project(query.items.as_slice(), row), &mut printed.text)?;
     printed.rows += 1;
     Ok(())
 }

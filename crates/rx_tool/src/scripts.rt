@@ -1,14 +1,15 @@
-ghost use Rattle.std.specs.Prelude.{◌≡◌, ◌≢◌, ◌≤◌, ℕ, true, Some, IfOk, IfErr, IfSome, OnOk, OnErr, map, length};
-ghost use Rattle.rx_store.specs.Tables.{Caused, Keeps};
+ghost use Rattle.std.specs.Prelude.{◌≡◌, None, IfOk, IfErr, OnOk, map};
+ghost use Rattle.rx_store.specs.Tables.{Keeps};
 ghost use Rattle.rx_query.specs.Steps.{step_of};
 ghost use Rattle.rx_query.specs.Settings.{default_settings, settings_after};
-ghost use Rattle.rx_tool.specs.Blocks.{counts_after, counts_after_step};
-ghost use Rattle.rx_tool.specs.Running.{RunsStep, RunsScript, StopsStep, StopsScript, StepIsCalm, StepLeavesRoom, ScriptIsCalm};
+ghost use Rattle.rx_tool.specs.Seen.{sink_seen};
+ghost use Rattle.rx_tool.specs.Blocks.{blocks_of, blocks_of_step, counts_after, counts_after_request};
+ghost use Rattle.rx_tool.specs.Running.{Puts, Stops};
 ghost use Rattle.rx_tool.specs.Select.{table_fault};
 
 use crate::engine::{SelectFault, select};
 use rx_outside::Sink;
-use rx_query::{Numbered, Script, Settings, Statement};
+use rx_query::{Numbered, Script, Settings, Statement, apply};
 use rx_store::Table;
 use std::alloc::Global;
 
@@ -19,14 +20,14 @@ pub(crate) fn run_script<T: Table, O: Sink>(
     table: &mut T,
     out: &mut O,
 ) -> Result<(), SelectFault>
-    ensures whole { OnOk result (RunsScript (T.means table.old).rows default_settings (map step_of script.now) (O.text out.old) (O.text out.new)) }
-    ensures counts { OnOk result ((T.tally table.new).counts ≡ counts_after (T.means table.old).count (map step_of script.now) (T.tally table.old).counts) }
-    ensures stopped { IfErr result (StopsScript (T.means table.old).rows default_settings (map step_of script.now) (O.text out.old) (O.text out.new) (O.faults out.old) (O.faults out.new)) }
-    ensures cause { IfErr result (λ f. IfSome (table_fault f) (Caused T.means T.tally table.old table.new)) }
-    ensures calm { ScriptIsCalm (T.means table.old).rows default_settings (map step_of script.now) (O.room out.old) (O.faults out.old) (O.faults out.new) }
-    ensures out_later { O.faults out.old ≤ O.faults out.new }
-    ensures keeps { Keeps T.means T.tally T.kept table.old table.new }
-    ensures spent { OnOk result (T.spent table.old table.new) }
+    ensures puts { OnOk result (Puts (T.means table.old) (blocks_of (map step_of script.now) (T.means table.old))
+        (sink_seen O.text O.faults O.room out.old) (sink_seen O.text O.faults O.room out.new)) }
+    ensures stopped { IfErr result (Stops (T.means table.old) (blocks_of (map step_of script.now) (T.means table.old))
+        (sink_seen O.text O.faults O.room out.old) (sink_seen O.text O.faults O.room out.new)) }
+    ensures counts { OnOk result
+        ((T.tally table.new).counts ≡ counts_after default_settings (map step_of script.now) (T.means table.old) (T.tally table.old).counts) }
+    ensures keeps { OnOk result (Keeps T.means T.tally T.leaves None table.old table.new) }
+    ensures cause { IfErr result (λ f. Keeps T.means T.tally T.leaves (table_fault f) table.old table.new) }
 {
     let mut settings = Settings::new();
     for numbered in script.as_slice() {
@@ -39,6 +40,7 @@ pub(crate) fn run_script<T: Table, O: Sink>(
 }
 
 // Runs one statement under the settings, and answers the settings after it.
+#[tactic(auto, using(crate::proofs::Blocks::puts_nothing))]
 fn run_statement<T: Table, O: Sink>(
     alloc: Global,
     settings: Settings,
@@ -47,15 +49,14 @@ fn run_statement<T: Table, O: Sink>(
     out: &mut O,
 ) -> Result<Settings, SelectFault>
     ensures settings { IfOk result (λ s. s ≡ settings_after settings (step_of numbered.now)) }
-    ensures whole { OnOk result (RunsStep (T.means table.old).rows settings (step_of numbered.now) (O.text out.old) (O.text out.new)) }
-    ensures counts { OnOk result ((T.tally table.new).counts ≡ counts_after_step (T.means table.old).count (step_of numbered.now) (T.tally table.old).counts) }
-    ensures stopped { IfErr result (StopsStep (T.means table.old).rows settings (step_of numbered.now) (O.text out.old) (O.text out.new) (O.faults out.old) (O.faults out.new)) }
-    ensures cause { IfErr result (λ f. IfSome (table_fault f) (Caused T.means T.tally table.old table.new)) }
-    ensures calm { StepIsCalm (T.means table.old).rows settings (step_of numbered.now) (O.room out.old) (O.faults out.old) (O.faults out.new) }
-    ensures room { OnOk result (StepLeavesRoom (T.means table.old).rows settings (step_of numbered.now) (O.room out.old) (O.room out.new)) }
-    ensures out_later { O.faults out.old ≤ O.faults out.new }
-    ensures keeps { Keeps T.means T.tally T.kept table.old table.new }
-    ensures spent { OnOk result (T.spent table.old table.new) }
+    ensures puts { OnOk result (Puts (T.means table.old) (blocks_of_step settings (step_of numbered.now) (T.means table.old))
+        (sink_seen O.text O.faults O.room out.old) (sink_seen O.text O.faults O.room out.new)) }
+    ensures stopped { IfErr result (Stops (T.means table.old) (blocks_of_step settings (step_of numbered.now) (T.means table.old))
+        (sink_seen O.text O.faults O.room out.old) (sink_seen O.text O.faults O.room out.new)) }
+    ensures counts { OnOk result
+        ((T.tally table.new).counts ≡ counts_after_request settings (step_of numbered.now).request (T.means table.old) (T.tally table.old).counts) }
+    ensures keeps { OnOk result (Keeps T.means T.tally T.leaves None table.old table.new) }
+    ensures cause { IfErr result (λ f. Keeps T.means T.tally T.leaves (table_fault f) table.old table.new) }
 {
     match &numbered.statement {
         Statement::Query(query) => match select(
@@ -69,6 +70,6 @@ fn run_statement<T: Table, O: Sink>(
             Ok(()) => Ok(settings),
             Err(fault) => Err(fault),
         },
-        Statement::Change(change) => Ok(settings.after(*change)),
+        Statement::Change(change) => Ok(apply(&settings, change)),
     }
 }

@@ -1,14 +1,14 @@
-ghost use Rattle.std.specs.Prelude.{◌≡◌, ◌≤◌, IfOk, IfErr, OnOk, map, string_bytes};
+ghost use Rattle.std.specs.Prelude.{◌≡◌, IfOk, IfErr, OnOk, map, string_bytes};
 ghost use Rattle.rx_outside.specs.Files.{KeepsFiles};
 ghost use Rattle.rx_store.specs.Stored.{IsStorable};
 ghost use Rattle.rx_inputs.specs.Files.{named};
 ghost use Rattle.rx_inputs.specs.Faults.{held};
 ghost use Rattle.rx_tool.specs.Blocks.{blocks_of};
-ghost use Rattle.rx_tool.specs.Running.{PutsAll, HasRoom, size_of};
+ghost use Rattle.rx_tool.specs.Running.{Puts};
 ghost use Rattle.rx_tool.specs.Seen.{files_seen, sink_seen, outside};
-ghost use Rattle.rx_tool.specs.Owes.{owed, select_owes, table_after};
+ghost use Rattle.rx_tool.specs.Owes.{owed, select_owes, table_of, table_after};
 ghost use Rattle.rx_tool.specs.Ending.{IsRun};
-ghost use Rattle.rx_tool.specs.Work.{IsWork, StopsScriptRun};
+ghost use Rattle.rx_tool.specs.Work.{IsWork, StopsScript};
 
 use crate::engine::SelectFault;
 use crate::scripts::run_script;
@@ -46,7 +46,7 @@ pub fn run<F: Files, O: Sink, E: Sink>(
         (outside (files_seen F.told F.sure F.taken F.faults result.files) (sink_seen O.text O.faults O.room out.new) (sink_seen E.text E.faults E.room err.new))
         result.status result.first result.second }
 
-    // Where it is done, `err` wasn't called; and the files stay as they were.
+    // Where it is done, `err` is as it was; and the files tell what they told.
     ensures quiet { result.status ≡ Status.Done → err.new ≡ err.old }
     ensures keeps { KeepsFiles F.told F.sure F.room files result.files }
 {
@@ -77,7 +77,9 @@ fn work<F: Files, O: Sink>(
     files: &mut F,
     out: &mut O,
 ) -> Result<MemTable, Stop>
-    ensures work { IsWork (owed (map string_bytes words.now) (F.told files.old)) (files_seen F.told F.sure F.taken F.faults files.old) (files_seen F.told F.sure F.taken F.faults files.new) (sink_seen O.text O.faults O.room out.old) (sink_seen O.text O.faults O.room out.new) result }
+    ensures work { IsWork (owed (map string_bytes words.now) (F.told files.old))
+        (files_seen F.told F.sure F.taken F.faults files.old) (files_seen F.told F.sure F.taken F.faults files.new)
+        (sink_seen O.text O.faults O.room out.old) (sink_seen O.text O.faults O.room out.new) result }
     ensures keeps { KeepsFiles F.told F.sure F.room files.old files.new }
 {
     let Some(command) = command_of(words) else {
@@ -95,7 +97,9 @@ fn run_select<F: Files, O: Sink>(
     names: &FileNames<'_>,
     out: &mut O,
 ) -> Result<MemTable, Stop>
-    ensures work { IsWork (select_owes (F.told files.old) (named names.now)) (files_seen F.told F.sure F.taken F.faults files.old) (files_seen F.told F.sure F.taken F.faults files.new) (sink_seen O.text O.faults O.room out.old) (sink_seen O.text O.faults O.room out.new) result }
+    ensures work { IsWork (select_owes (F.told files.old) (named names.now))
+        (files_seen F.told F.sure F.taken F.faults files.old) (files_seen F.told F.sure F.taken F.faults files.new)
+        (sink_seen O.text O.faults O.room out.old) (sink_seen O.text O.faults O.room out.new) result }
     ensures keeps { KeepsFiles F.told F.sure F.room files.old files.new }
 {
     let read = match read_inputs(alloc, files, names) {
@@ -106,13 +110,14 @@ fn run_select<F: Files, O: Sink>(
 }
 
 // Runs the script of the inputs over their table.
+#[tactic(auto, using(crate::proofs::Owed::puts_held, crate::proofs::Owed::writing_held, crate::proofs::Owed::between_held))]
 fn run_inputs<O: Sink>(alloc: Global, read: Inputs, out: &mut O) -> Result<MemTable, Stop>
     requires { IsStorable read.schema read.rows }
-    ensures text { OnOk result (PutsAll (blocks_of (held read).steps (held read).rows) (O.text out.old) (O.text out.new)) }
+    ensures puts { OnOk result (Puts (table_of (held read)) (blocks_of (held read).steps (table_of (held read)))
+        (sink_seen O.text O.faults O.room out.old) (sink_seen O.text O.faults O.room out.new)) }
     ensures table { IfOk result (λ table. table ≡ table_after (held read)) }
-    ensures stopped { IfErr result (StopsScriptRun (held read) (sink_seen O.text O.faults O.room out.old) (sink_seen O.text O.faults O.room out.new)) }
-    ensures calm { HasRoom (O.room out.old) (size_of (blocks_of (held read).steps (held read).rows)) → O.faults out.new ≡ O.faults out.old }
-    ensures out_later { O.faults out.old ≤ O.faults out.new }
+    ensures stopped { IfErr result (StopsScript (held read)
+        (sink_seen O.text O.faults O.room out.old) (sink_seen O.text O.faults O.room out.new)) }
 {
     let Inputs {
         schema,

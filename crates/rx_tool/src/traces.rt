@@ -1,4 +1,4 @@
-ghost use Rattle.std.specs.Prelude.{◌≡◌, ◌++◌, ◌∷◌, [], ◌<◌, OnOk, IfOk, length, string_bytes};
+ghost use Rattle.std.specs.Prelude.{◌≡◌, ◌++◌, ◌∷◌, [], ◌<◌, ◌+◌, Some, OnOk, IfOk, length, slice_get, string_bytes};
 ghost use Rattle.serde_json.specs.View.{view};
 ghost use Rattle.serde_json.specs.Written.{compact_text};
 ghost use Rattle.rx_tool.specs.Trace.{candidate_data, name_of_kind, trace_data, reads_data, trace_line, table_data, analysis_data, summary_data};
@@ -53,7 +53,7 @@ fn trace_value(alloc: Global, traced: &Traced<'_>) -> Result<Value, AllocError>
     requires { traced.now.chosen < length traced.now.all.now }
     ensures { IfOk result (λ v. view v ≡ trace_data traced.now.statement traced.now.all.now traced.now.chosen traced.now.dive_seeks traced.now.reads) }
 {
-    let summary = summary_value(alloc, traced.all[traced.chosen], traced.chosen as u64 + 1)?;
+    let summary = chosen_value(alloc, traced)?;
     let analysis = analysis_value(alloc, traced.all)?;
     let reads = reads_value(alloc, traced.dive_seeks, traced.reads)?;
     json!(in alloc; {
@@ -73,8 +73,18 @@ fn kind_name(kind: Kind) -> &'static str
 }
 
 // The chosen candidate and its number.
-fn summary_value(alloc: Global, candidate: Candidate, n: u64) -> Result<Value, AllocError>
-    ensures { IfOk result (λ v. view v ≡ summary_data candidate n) }
+#[tactic(auto, using(crate::proofs::Plans::there))]
+fn chosen_value(alloc: Global, traced: &Traced<'_>) -> Result<Value, AllocError>
+    requires { traced.now.chosen < length traced.now.all.now }
+    ensures { IfOk result (λ v.
+        view v ≡ summary_data (slice_get traced.now.all.now traced.now.chosen) (traced.now.chosen + 1)) }
+{
+    summary_value(alloc, &traced.all[traced.chosen], traced.chosen as u64 + 1)
+}
+
+// A candidate in short.
+fn summary_value(alloc: Global, candidate: &Candidate, n: u64) -> Result<Value, AllocError>
+    ensures { IfOk result (λ v. view v ≡ summary_data (Some candidate.now) n) }
 {
     json!(in alloc; {
         "cost": candidate.cost,
@@ -106,12 +116,12 @@ fn table_value(alloc: Global, all: &[Candidate]) -> Result<Value, AllocError>
 {
     match all {
         [] => Ok(Value::Null),
-        [table, ..] => candidate_value(alloc, *table, 1),
+        [table, ..] => candidate_value(alloc, table, 1),
     }
 }
 
-fn candidate_value(alloc: Global, candidate: Candidate, n: u64) -> Result<Value, AllocError>
-    ensures { IfOk result (λ v. view v ≡ candidate_data candidate n) }
+fn candidate_value(alloc: Global, candidate: &Candidate, n: u64) -> Result<Value, AllocError>
+    ensures { IfOk result (λ v. view v ≡ candidate_data candidate.now n) }
 {
     json!(in alloc; {
         "cost": candidate.cost,

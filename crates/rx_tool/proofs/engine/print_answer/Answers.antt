@@ -11,6 +11,5 @@ loop-id-preserved g c =
       printed = printed-more _ (question_of c.args.query.now) c.loop-id.id c.in-Ok.row c.loop-id.printed c.print_if_selected.new.printed here.printed (rw here.keeps.means_stays at c.in-Ok.ensures.told) c.in-Ok-print_if_selected.ensures;
       few = omega (arith, here.few, one_at_most (question_of c.args.query.now) c.in-Ok.row c.loop-id.printed c.print_if_selected.new.printed c.in-Ok-print_if_selected.ensures);
       counts = with_rows-more c.loop-id.id _ _ _ here.counts c.in-Ok.ensures.counts;
-      keeps = Keeps-chain g.met.T.Table.kept_chain _ _ _ here.keeps c.row.ensures.keeps;
-      spent = g.met.T.Table.spent_chain _ _ _ here.spent c.in-Ok.ensures.spent;
+      keeps = Keeps-chain g.met.T.Table.leaves_chain _ _ _ _ here.keeps c.in-Ok.ensures.keeps;
     }

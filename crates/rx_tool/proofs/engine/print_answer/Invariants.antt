@@ -1,4 +1,4 @@
-use Rattle.std.proofs.Common.{◌≡◌, ◌≤◌}
+use Rattle.std.proofs.Common.{◌≡◌, ◌≤◌, None}
 use Rattle.rx_store.specs.Tables.{Keeps, with_rows}
 use Rattle.rx_query.specs.Steps.{question_of}
 use Rattle.rx_tool.proofs.Scanning.{PrintsSoFar}
@@ -9,6 +9,5 @@ invariant-loop-id g l = record {
   printed : PrintsSoFar (question_of l.query) (g.T.Table.means l.initial.table).rows l.id l.printed;
   few : l.printed.rows ≤ l.id;
   counts : (g.T.Table.tally l.table).counts ≡ with_rows l.id (g.T.Table.tally l.initial.table).counts;
-  keeps : Keeps g.T.Table.means g.T.Table.tally g.T.Table.kept l.initial.table l.table;
-  spent : g.T.Table.spent l.initial.table l.table;
+  keeps : Keeps g.T.Table.means g.T.Table.tally g.T.Table.leaves None l.initial.table l.table;
 }

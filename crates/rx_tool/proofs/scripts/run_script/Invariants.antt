@@ -1,17 +1,19 @@
-use Rattle.std.proofs.Common.{◌≡◌, ◌≤◌, drop, map}
-use Rattle.rx_store.specs.Tables.{Keeps}
+use Rattle.std.proofs.Common.{◌≡◌, None, drop, map}
+use Rattle.rx_store.specs.Tables.{Keeps, WhereTold}
 use Rattle.rx_query.specs.Steps.{step_of}
 use Rattle.rx_query.specs.Settings.{default_settings}
-use Rattle.rx_tool.specs.Blocks.{counts_after}
-use Rattle.rx_tool.proofs.Blocks.{PutsSoFar, RoomSoFar}
+use Rattle.rx_tool.specs.Seen.{sink_seen}
+use Rattle.rx_tool.specs.Blocks.{blocks_of, blocks_from, counts_after}
+use Rattle.rx_tool.proofs.Blocks.{PutsSoFar}
 use Rattle.rx_tool.proofs.scripts.run_script.Given as goal
 
 abbrev pub invariant-loop-numbered : goal.invariant-loop-numbered
 invariant-loop-numbered g l = record {
-  put : PutsSoFar (g.T.Table.means l.initial.table).rows default_settings (map step_of l.script) l.settings (map step_of (drop l.numbered-index l.numbered-items)) (g.O.Sink.text l.initial.out) (g.O.Sink.text l.out);
-  room : RoomSoFar (g.T.Table.means l.initial.table).rows default_settings (map step_of l.script) l.settings (map step_of (drop l.numbered-index l.numbered-items)) (g.O.Sink.room l.initial.out) (g.O.Sink.room l.out) (g.O.Sink.faults l.initial.out) (g.O.Sink.faults l.out);
-  counts : counts_after (g.T.Table.means l.initial.table).count (map step_of (drop l.numbered-index l.numbered-items)) (g.T.Table.tally l.table).counts ≡ counts_after (g.T.Table.means l.initial.table).count (map step_of l.script) (g.T.Table.tally l.initial.table).counts;
-  out_later : g.O.Sink.faults l.initial.out ≤ g.O.Sink.faults l.out;
-  keeps : Keeps g.T.Table.means g.T.Table.tally g.T.Table.kept l.initial.table l.table;
-  spent : g.T.Table.spent l.initial.table l.table;
+  put : WhereTold (g.T.Table.means l.initial.table) (PutsSoFar
+      (blocks_of (map step_of l.script) (g.T.Table.means l.initial.table))
+      (blocks_from l.settings (map step_of (drop l.numbered-index l.numbered-items)) (g.T.Table.means l.initial.table))
+      (sink_seen g.O.Sink.text g.O.Sink.faults g.O.Sink.room l.initial.out) (sink_seen g.O.Sink.text g.O.Sink.faults g.O.Sink.room l.out));
+  no_fault : g.O.Sink.faults l.out ≡ g.O.Sink.faults l.initial.out;
+  counts : counts_after l.settings (map step_of (drop l.numbered-index l.numbered-items)) (g.T.Table.means l.initial.table) (g.T.Table.tally l.table).counts ≡ counts_after default_settings (map step_of l.script) (g.T.Table.means l.initial.table) (g.T.Table.tally l.initial.table).counts;
+  keeps : Keeps g.T.Table.means g.T.Table.tally g.T.Table.leaves None l.initial.table l.table;
 }

@@ -2,7 +2,7 @@ use Rattle.rx_inputs.specs.Faults.{held}
 use Rattle.rx_inputs.specs.Files.{named, held_by}
 use Rattle.rx_inputs.specs.Reads.{files_read}
 use Rattle.rx_tool.specs.Seen.{sink_seen}
-use Rattle.rx_tool.proofs.Owed.{script_ends, calm_accepted}
+use Rattle.rx_tool.proofs.Owed.{script_ends, script_later, calm_accepted}
 use Rattle.rx_tool.proofs.tool.run_select.Goals as goal
 
 pub returns-clause-work : goal.returns-clause-work
@@ -13,10 +13,10 @@ returns-clause-work g c =
     let old = sink_seen g.O.Sink.text g.O.Sink.faults g.O.Sink.room c.args.out.now in
     let new = sink_seen g.O.Sink.text g.O.Sink.faults g.O.Sink.room c.run_inputs.new.out in
     record {
-      ends = script_ends (files_read told names) (held_by told names) read (g.F.Files.faults c.args.files.now) (g.F.Files.faults c.read_inputs.new.files) old new c.run_inputs.result c.in-Ok.ensures.accepted c.run_inputs.ensures.text c.run_inputs.ensures.table c.run_inputs.ensures.stopped;
+      ends = script_ends (files_read told names) (held_by told names) read (g.F.Files.faults c.args.files.now) (g.F.Files.faults c.read_inputs.new.files) old new c.run_inputs.result c.in-Ok.ensures.accepted c.run_inputs.ensures.puts c.run_inputs.ensures.table c.run_inputs.ensures.stopped;
       sure = c.read_inputs.ensures.sure;
-      calm = calm_accepted (held_by told names) read old.room old.faults new.faults c.in-Ok.ensures.accepted c.run_inputs.ensures.calm;
+      calm = calm_accepted (held_by told names) read old new c.run_inputs.result c.in-Ok.ensures.accepted c.run_inputs.ensures.puts c.run_inputs.ensures.stopped;
       taken = c.read_inputs.ensures.taken;
       files_later = c.read_inputs.ensures.later;
-      out_later = c.run_inputs.ensures.out_later;
+      out_later = script_later read old new c.run_inputs.result c.run_inputs.ensures.puts c.run_inputs.ensures.stopped;
     }
