@@ -14,14 +14,15 @@ use Rattle.rx_tree.proofs.Intersection.{both_law}
 use Rattle.rx_tree.proofs.Unique.{same_levels}
 use Rattle.rx_level.specs.declared.nodes.Node.{Node}
 use Rattle.rx_level.specs.Step.{level_of}
-use Rattle.rx_or.specs.Cover.{AreInOrder}
-use Rattle.rx_or.proofs.Covered.{placed_order}
+use Rattle.rx_tree.specs.Cuts.{AreInOrder}
+use Rattle.rx_tree.proofs.Sides.{placed_order}
 use Rattle.rx_cut.specs.Clip.{clipped}
 use Rattle.rx_cut.proofs.Clipped.{across_clipped}
-use Rattle.rx_and.specs.Rising.{AreRising}
 use Rattle.rx_and.specs.Fellows.{AreFellows, MayHangBelow}
-use Rattle.rx_and.proofs.Rising.{placed_rise}
-use Rattle.rx_and.proofs.Meets.{Stays}
+use Rattle.rx_weld.proofs.Seamless.{glue_nothing}
+use Rattle.rx_and.proofs.Narrowed.{order_of}
+use Rattle.rx_and.proofs.Pieces.{across_are_apart}
+use Rattle.rx_cut.proofs.Staying.{Stays}
 
 and_turn : (a b : Bool) → (a && b) ≡ (b && a)
 and_turn true true = refl
@@ -93,9 +94,6 @@ split_below c whole l s d r opened f =
       right = record { nullable = f.nullable; parts = f.parts; below = f.below; placed = p.on.3 };
     }
 
-pub rises : (c h : Level) → MayHangBelow c h → AreRising h
-rises c h f = placed_rise (f.nullable ∷ f.parts) h f.placed
-
 -- the same in a later store
 pub fellows_later : (a b : Slab Node) (g h : Option ℕ) → Stays a b g → Stays a b h → AreFellows (level_of a g) (level_of a h) → AreFellows (level_of b g) (level_of b h)
 fellows_later a b g h one other f = record { parts = f.parts; first = subst (ArePlaced f.parts) (sym one.level) f.first; second = subst (ArePlaced f.parts) (sym other.level) f.second }
@@ -124,3 +122,17 @@ bare_met a child h s none span f =
 pub met_itself : (parts : List Bool) (s : Slab Node) (g h : ℕ) → g ≡ h → IsCanonicalLevel parts (level_of s (Some g)) → level_of s (Some g) ≡ both (level_of s (Some g)) (level_of s (Some h))
 met_itself parts s g h same canonical =
     sym (both_itself parts (level_of s (Some g)) canonical.placed) ∙ ap (λ x. both (level_of s (Some g)) (level_of s (Some x))) same
+
+-- an item without a child, as a level, has in common with a level what that has within its span
+bare_first : (s : Span) (h : Level) → IsSpan s → AreInOrder h → clipped s h ≡ both (item s end end) h
+bare_first s h span order = sym (across_clipped (both end) s h span order) ∙ sym (glue_nothing (across (both end) end s h) (across_are_apart (both end) end s h))
+
+-- the span of a level of one item without a child
+pub bare_span_is : (parts : List Bool) (l : Level) (s : Span) → l ≡ item s end end → ArePlaced parts l → IsSpan s
+bare_span_is parts l s is placed = (order_of parts (item s end end) (subst (ArePlaced parts) is placed)).0
+
+pub first_bare : (g h : Level) (s : Span) → AreFellows g h → g ≡ item s end end → clipped s h ≡ both g h
+first_bare g h s f is = bare_first s h (bare_span_is f.parts g s is f.first) (order_of f.parts h f.second) ∙ ap (λ x. both x h) (sym is)
+
+pub second_bare : (g h : Level) (s : Span) → AreFellows g h → h ≡ item s end end → clipped s g ≡ both g h
+second_bare g h s f is = first_bare h g s (turned g h f) is ∙ both_turn g h f

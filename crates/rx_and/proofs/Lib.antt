@@ -1,7 +1,10 @@
 pub mod Pieces
-pub mod Rising
+pub mod Reached
+pub mod Narrowed
 pub mod Placed
 pub mod Meets
 pub mod MeetRoots
-pub mod Hanging
+pub mod HungLevels
+pub mod Turned
 pub mod Fellows
+pub mod MetPairs

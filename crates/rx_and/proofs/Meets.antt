@@ -12,16 +12,16 @@ use Rattle.rx_tree.specs.Meet.{Piece, piece_of, put_piece, meet_child, unless_en
 use Rattle.rx_tree.proofs.Welding.{glue_assoc}
 use Rattle.rx_tree.proofs.Sizes.{glue_second}
 use Rattle.rx_tree.proofs.Joining.{size-join, across-join, both-join}
-use Rattle.rx_level.specs.Tree.{plain}
 use Rattle.rx_level.specs.Store.{IsSound, body_in}
 use Rattle.rx_level.specs.Step.{Owns, Step, Lent, level_of}
 use Rattle.rx_level.proofs.Steps.{held_there, level_of-parts}
-use Rattle.rx_level.proofs.Lending.{lent_after}
 use Rattle.rx_level.proofs.Turning.{kept_root}
 use Rattle.rx_weld.specs.Seamless.{IsSeamless}
 use Rattle.rx_weld.proofs.Seamless.{glue_size_first}
+use Rattle.rx_cut.proofs.Staying.{Stays, stays, stays_two}
 use Rattle.rx_and.proofs.Pieces.{across_are_apart, both_are_apart}
-use Rattle.rx_and.proofs.Rising.{Keeps}
+use Rattle.rx_and.proofs.Reached.{Keeps}
+use Rattle.rx_and.proofs.Narrowed.{Side}
 
 -- the parts of a level are smaller
 pub record Smaller (whole below before after : Level) : Type 0 where
@@ -33,24 +33,6 @@ pub smaller : (whole below before after : Level) (span : Span) → whole ≡ joi
 smaller whole below before after span e =
     let size : level_size whole ≡ level_size before + (1 + level_size below + level_size after) = ap level_size e ∙ size-join before (item span below after) in
     record { child = omega (arith, size); left = omega (arith, size); right = omega (arith, size) }
-
--- what is lent stays over a step that spends nothing
-pub record Stays (a b : Slab Node) (r : Option ℕ) : Type 0 where
-  pub level : level_of b r ≡ level_of a r
-  pub size_same : level_size (level_of b r) ≡ level_size (level_of a r)
-  pub lent : Lent b [] r
-
-pub stays : (a b : Slab Node) (g : List (Option ℕ)) → IsSound a [] → Step a b [] g → (r : Option ℕ) → Lent a [] r → Stays a b r
-stays a b g sound step r lent =
-    let s = lent_after a b [] g [] [] sound step (λ m. omega arith) (λ m. omega arith) r lent in
-    record { level = ap plain s.tree; size_same = ap (λ t. level_size (plain t)) s.tree; lent = s.lent }
-
--- and over two of them
-pub stays_two : (a b d : Slab Node) (g k : List (Option ℕ)) → IsSound a [] → Step a b [] g → Step b d [] k → (r : Option ℕ) → Lent a [] r → Stays a d r
-stays_two a b d g k sound one two r lent =
-    let s = stays a b g sound one r lent in
-    let t = stays b d k one.sound two r s.lent in
-    record { level = t.level ∙ s.level; size_same = t.size_same ∙ s.size_same; lent = t.lent }
 
 -- each of three levels is at most as large as what they are glued to
 pub record Within (x m r whole : Level) : Type 0 where
@@ -124,8 +106,8 @@ record Kept (b d e : Slab Node) (middle front : Option ℕ) : Type 0 where
   middle_kept : level_of e middle ≡ level_of b middle
   front_kept : level_of e front ≡ level_of d front
 
-kept : (a b d e : Slab Node) (middle front back : Option ℕ) → Step a b [] (middle ∷ []) → Step b d [] (front ∷ []) → Step d e [] (back ∷ []) → Kept b d e middle front
-kept a b d e middle front back one two three = record {
+kept : (a b d e : Slab Node) (middle front back : Option ℕ) (ms fs bs : List (Option ℕ)) → Step a b [] (middle ∷ ms) → Step b d [] (front ∷ fs) → Step d e [] (back ∷ bs) → Kept b d e middle front
+kept a b d e middle front back ms fs bs one two three = record {
   middle_kept = (kept_root d e _ _ three middle (λ m. omega (arith, one.held m, two.held m))).level ∙ (kept_root b d _ _ two middle (λ m. omega (arith, one.held m))).level;
   front_kept = (kept_root d e _ _ three front (λ m. omega (arith, two.held m))).level;
 }
@@ -144,16 +126,16 @@ glues_from s front middle back x m r whole is_x is_m is_r apart_x apart_m is = r
 }
 
 -- what an item and a level have in common
-pub crossed : (a b d e : Slab Node) (hroot c child l r low high middle front back : Option ℕ) (s t : Span) (p : Option Span)
+pub crossed : (a b d e : Slab Node) (hroot c child l r low high middle front back : Option ℕ) (ms fs bs : List (Option ℕ)) (s t : Span) (p : Option Span)
     → IsSound a [] → Lent a [] c → Keeps a s l low → Keeps a s r high
     → level_of a hroot ≡ join_level (level_of a l) (item t (level_of a child) (level_of a r))
     → p ≡ meet_span s t
-    → Step a b [] (middle ∷ []) → level_of b middle ≡ put_piece (piece_of p (meet_child (both (level_of a c)) (level_of a c) (level_of a child))) end
-    → Step b d [] (front ∷ []) → level_of d front ≡ across (both (level_of b c)) (level_of b c) s (level_of b low)
-    → Step d e [] (back ∷ []) → level_of e back ≡ across (both (level_of d c)) (level_of d c) s (level_of d high)
+    → Step a b [] (middle ∷ ms) → level_of b middle ≡ put_piece (piece_of p (meet_child (both (level_of a c)) (level_of a c) (level_of a child))) end
+    → Step b d [] (front ∷ fs) → level_of d front ≡ across (both (level_of b c)) (level_of b c) s (level_of b low)
+    → Step d e [] (back ∷ bs) → level_of e back ≡ across (both (level_of d c)) (level_of d c) s (level_of d high)
     → Glues e front middle back (across (both (level_of a c)) (level_of a c) s (level_of a hroot))
-crossed a b d e hroot c child l r low high middle front back s t p sound lent_c keeps_l keeps_r opened is_p one is_middle two is_front three is_back =
-    let k = kept a b d e middle front back one two three in
+crossed a b d e hroot c child l r low high middle front back ms fs bs s t p sound lent_c keeps_l keeps_r opened is_p one is_middle two is_front three is_back =
+    let k = kept a b d e middle front back ms fs bs one two three in
     let C = level_of a c in
     glues_from e front middle back
     (across (both C) C s (level_of a l)) (put_piece (piece_of p (meet_child (both C) C (level_of a child))) end) (across (both C) C s (level_of a r)) (across (both C) C s (level_of a hroot))
@@ -164,23 +146,24 @@ crossed a b d e hroot c child l r low high middle front back s t p sound lent_c 
     (across_parts (both C) C s t p (level_of a hroot) (level_of a l) (level_of a child) (level_of a r) opened is_p)
 
 -- what two levels have in common
-pub met : (a b d e : Slab Node) (groot h child l r middle front back : Option ℕ) (s t : Span)
-    → IsSound a [] → Lent a [] h → Lent a [] l → Lent a [] r
+pub met : (a b d e : Slab Node) (groot h child l r low high middle front back : Option ℕ) (ms fs bs : List (Option ℕ)) (s t : Span)
+    → IsSound a [] → Lent a [] l → Lent a [] r → Lent a [] low → Lent a [] high
+    → Side (level_of a l) (level_of a h) (level_of a low) → Side (level_of a r) (level_of a h) (level_of a high)
     → level_of a groot ≡ join_level (level_of a l) (item t (level_of a child) (level_of a r))
     → s ≡ t
-    → Step a b [] (middle ∷ []) → level_of b middle ≡ across (both (level_of a child)) (level_of a child) s (level_of a h)
-    → Step b d [] (front ∷ []) → level_of d front ≡ both (level_of b l) (level_of b h)
-    → Step d e [] (back ∷ []) → level_of e back ≡ both (level_of d r) (level_of d h)
+    → Step a b [] (middle ∷ ms) → level_of b middle ≡ across (both (level_of a child)) (level_of a child) s (level_of a h)
+    → Step b d [] (front ∷ fs) → level_of d front ≡ both (level_of b l) (level_of b low)
+    → Step d e [] (back ∷ bs) → level_of e back ≡ both (level_of d r) (level_of d high)
     → Glues e front middle back (both (level_of a groot) (level_of a h))
-met a b d e groot h child l r middle front back s t sound lent_h lent_l lent_r opened is_s one is_middle two is_front three is_back =
-    let k = kept a b d e middle front back one two three in
+met a b d e groot h child l r low high middle front back ms fs bs s t sound lent_l lent_r lent_low lent_high side_l side_r opened is_s one is_middle two is_front three is_back =
+    let k = kept a b d e middle front back ms fs bs one two three in
     let H = level_of a h in
     let C = level_of a child in
     glues_from e front middle back
     (both (level_of a l) H) (across (both C) C t H) (both (level_of a r) H) (both (level_of a groot) H)
-    (k.front_kept ∙ is_front ∙ both_later a b l h (stays a b _ sound one l lent_l) (stays a b _ sound one h lent_h))
+    (k.front_kept ∙ is_front ∙ both_later a b l low (stays a b _ sound one l lent_l) (stays a b _ sound one low lent_low) ∙ side_l.same)
     (k.middle_kept ∙ is_middle ∙ ap (λ x. across (both C) C x H) is_s)
-    (is_back ∙ both_later a d r h (stays_two a b d _ _ sound one two r lent_r) (stays_two a b d _ _ sound one two h lent_h))
+    (is_back ∙ both_later a d r high (stays_two a b d _ _ sound one two r lent_r) (stays_two a b d _ _ sound one two high lent_high) ∙ side_r.same)
     (both_are_apart (level_of a l) H) (across_are_apart (both C) C t H)
     (both_parts t (level_of a groot) (level_of a l) C (level_of a r) H opened)
 
@@ -210,9 +193,9 @@ pub lent_items : (s : Slab Node) → IsSound s [] → (r : Option ℕ) (k : ℕ)
 lent_items s sound None k is lent = absurd (cc is)
 lent_items s sound (Some j) k is lent = has_items s sound j (get s j) refl lent.there
 
-given_items : (a b : Slab Node) (r : Option ℕ) (k : ℕ) → Step a b [] (r ∷ []) → r ≡ Some k → HasItems (level_of b r)
-given_items a b None k step is = absurd (cc is)
-given_items a b (Some j) k step is = has_items b step.sound j (get b j) refl (held_there b (Some j) (λ m. omega (arith, step.held m)))
+given_items : (a b : Slab Node) (r : Option ℕ) (k : ℕ) (rs : List (Option ℕ)) → Step a b [] (r ∷ rs) → r ≡ Some k → HasItems (level_of b r)
+given_items a b None k rs step is = absurd (cc is)
+given_items a b (Some j) k rs step is = has_items b step.sound j (get b j) refl (held_there b (Some j) (λ m. omega (arith, step.held m)))
 
 meet_child-items : (f : Level → Level) (c d : Level) → HasItems c → HasItems d → meet_child f c d ≡ unless_end (f d)
 meet_child-items f c d has_c has_d = rw (has_c.is, has_d.is) refl
@@ -246,11 +229,11 @@ piece_none a b c d child i j part span sound is is_c lent_c is_d lent_d absent l
 unless_end-items : (x : Level) (span : Span) → HasItems x → item span x end ≡ put_piece (piece_of (Some span) (unless_end x)) end
 unless_end-items x span has = rw has.is refl
 
-pub piece_some : (a b : Slab Node) (c d child : Option ℕ) (i j k : ℕ) (part : Option Span) (span : Span) → IsSound a [] → part ≡ Some span → c ≡ Some i → Lent a [] c → d ≡ Some j → Lent a [] d
-    → child ≡ Some k → Step a b [] (child ∷ []) → level_of b child ≡ both (level_of a c) (level_of a d)
+pub piece_some : (a b : Slab Node) (c d child : Option ℕ) (i j k : ℕ) (rs : List (Option ℕ)) (part : Option Span) (span : Span) → IsSound a [] → part ≡ Some span → c ≡ Some i → Lent a [] c → d ≡ Some j → Lent a [] d
+    → child ≡ Some k → Step a b [] (child ∷ rs) → level_of b child ≡ both (level_of a c) (level_of a d)
     → item span (level_of b child) end ≡ put_piece (piece_of part (meet_child (both (level_of a c)) (level_of a c) (level_of a d))) end
-piece_some a b c d child i j k part span sound is is_c lent_c is_d lent_d there step level =
-    unless_end-items (level_of b child) span (given_items a b child k step there)
+piece_some a b c d child i j k rs part span sound is is_c lent_c is_d lent_d there step level =
+    unless_end-items (level_of b child) span (given_items a b child k rs step there)
     ∙ ap (λ x. put_piece (piece_of (Some span) (unless_end x)) end) level
     ∙ sym (piece_is a c d i j part span (both (level_of a c)) sound is is_c lent_c is_d lent_d)
 

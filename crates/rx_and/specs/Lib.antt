@@ -1,3 +1,5 @@
-pub mod Rising
 pub mod Before
 pub mod Fellows
+pub mod Narrow
+pub mod MetPairs
+pub mod Few

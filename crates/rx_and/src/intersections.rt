@@ -1,6 +1,6 @@
 //! What two graphs have in common.
 
-ghost use Rattle.std.specs.Prelude.{◌≡◌, ◌<◌, ◌≤◌, ◌^◌, ◌+◌, ◌&&◌, ℕ, List, [], ◌∷◌, Some, None, IfOk, IfErr, OnOk, OnErr};
+ghost use Rattle.std.specs.Prelude.{◌≡◌, ◌<◌, ◌≤◌, ◌^◌, ◌+◌, ◌*◌, ◌&&◌, ℕ, true, List, [], ◌∷◌, Some, None, IfOk, IfErr, OnOk, OnErr};
 ghost use Rattle.slab.specs.Slab.{slab_len};
 ghost use Rattle.rx_value.specs.declared.order.End.{End as end_of_span};
 ghost use Rattle.rx_tree.specs.Tree.{size};
@@ -9,6 +9,7 @@ ghost use Rattle.rx_tree.specs.Meet.{tree_and};
 ghost use Rattle.rx_level.specs.Under.{IsNumberUnder};
 ghost use Rattle.rx_graph.specs.declared.handles.Root.TheVariants.{Items as items_root};
 ghost use Rattle.rx_graph.specs.Graph.{Steps, IsHeld, AreCanonical, handle_count, link_of, tree_in};
+ghost use Rattle.rx_tree.specs.Bare.{is_span, first_length};
 ghost use Rattle.rx_and.specs.Before.{IsBefore};
 
 use crate::choosing::level_and;
@@ -31,6 +32,10 @@ fn items_and(
     ensures over { IfErr result (λ fault. fault ≡ GraphFault.OverLimit → limit < size (tree_and (tree_in arena.old (items_root g)) (tree_in arena.old (items_root h)))) }
     ensures live { OnOk result (IsBefore arena.old.nullable (tree_in arena.old (items_root g)) (tree_in arena.old (items_root h)) → (n : ℕ) → IsNumberUnder arena.old.store (Some g) n → slab_len arena.new.store ≤ slab_len arena.old.store + n) }
     ensures items { IfOk result (λ r. IsBefore arena.old.nullable (tree_in arena.old (items_root g)) (tree_in arena.old (items_root h)) → (n m k : ℕ) → IsNumberUnder arena.old.store (Some g) n → IsNumberUnder arena.old.store (Some h) m → IsNumberUnder arena.new.store (link_of r) k → k ≤ n + m) }
+    ensures live_turned { OnOk result (IsBefore arena.old.nullable (tree_in arena.old (items_root h)) (tree_in arena.old (items_root g)) → (n : ℕ) → IsNumberUnder arena.old.store (Some h) n → slab_len arena.new.store ≤ slab_len arena.old.store + n) }
+    ensures items_turned { IfOk result (λ r. IsBefore arena.old.nullable (tree_in arena.old (items_root h)) (tree_in arena.old (items_root g)) → (n m k : ℕ) → IsNumberUnder arena.old.store (Some h) n → IsNumberUnder arena.old.store (Some g) m → IsNumberUnder arena.new.store (link_of r) k → k ≤ n + m) }
+    ensures by_bits { OnOk result (is_span (tree_in arena.old (items_root h)) ≡ true → (bits : ℕ) → first_length (tree_in arena.old (items_root g)) < 2 ^ bits → slab_len arena.new.store ≤ slab_len arena.old.store + 16 * bits + 16) }
+    ensures by_bits_turned { OnOk result (is_span (tree_in arena.old (items_root g)) ≡ true → (bits : ℕ) → first_length (tree_in arena.old (items_root h)) < 2 ^ bits → slab_len arena.new.store ≤ slab_len arena.old.store + 16 * bits + 16) }
     ensures same { OnOk result (g ≡ h → slab_len arena.new.store ≤ slab_len arena.old.store) }
     ensures err { OnErr result (Steps arena.old arena.new (items_root g ∷ items_root h ∷ []) []) }
 {
@@ -53,9 +58,10 @@ fn items_and(
 }
 
 /// The keys that both graphs hold. Both are spent in every case, and every other handle keeps its tree.
-/// Where every part that the first constrains comes before every part that the second constrains, at most as
-/// many new items are made as the first has different ones, and the answer has at most as many different
-/// items as both together. Where both are one graph, no item is new.
+/// Where every part that the one constrains comes before every part that the other constrains, at most as
+/// many new items are made as the one has different ones, and the answer has at most as many different
+/// items as both together. Where one is one span of the first part without a child, and the first level of the
+/// other has n items, at most 16 new items for each bit of n, and 16, are made. Where both are one graph, no item is new.
 ///
 /// # Errors
 ///
@@ -77,6 +83,10 @@ pub fn and(
     ensures over { IfErr result (λ fault. fault ≡ GraphFault.OverLimit → limit < size (tree_and (tree_in arena.old g) (tree_in arena.old h))) }
     ensures live { OnOk result (IsBefore arena.old.nullable (tree_in arena.old g) (tree_in arena.old h) → (n : ℕ) → IsNumberUnder arena.old.store (link_of g) n → slab_len arena.new.store ≤ slab_len arena.old.store + n) }
     ensures items { IfOk result (λ r. IsBefore arena.old.nullable (tree_in arena.old g) (tree_in arena.old h) → (n m k : ℕ) → IsNumberUnder arena.old.store (link_of g) n → IsNumberUnder arena.old.store (link_of h) m → IsNumberUnder arena.new.store (link_of r) k → k ≤ n + m) }
+    ensures live_turned { OnOk result (IsBefore arena.old.nullable (tree_in arena.old h) (tree_in arena.old g) → (n : ℕ) → IsNumberUnder arena.old.store (link_of h) n → slab_len arena.new.store ≤ slab_len arena.old.store + n) }
+    ensures items_turned { IfOk result (λ r. IsBefore arena.old.nullable (tree_in arena.old h) (tree_in arena.old g) → (n m k : ℕ) → IsNumberUnder arena.old.store (link_of h) n → IsNumberUnder arena.old.store (link_of g) m → IsNumberUnder arena.new.store (link_of r) k → k ≤ n + m) }
+    ensures by_bits { OnOk result (is_span (tree_in arena.old h) ≡ true → (bits : ℕ) → first_length (tree_in arena.old g) < 2 ^ bits → slab_len arena.new.store ≤ slab_len arena.old.store + 16 * bits + 16) }
+    ensures by_bits_turned { OnOk result (is_span (tree_in arena.old g) ≡ true → (bits : ℕ) → first_length (tree_in arena.old h) < 2 ^ bits → slab_len arena.new.store ≤ slab_len arena.old.store + 16 * bits + 16) }
     ensures same { OnOk result (g ≡ h → slab_len arena.new.store ≤ slab_len arena.old.store) }
     ensures err { OnErr result (Steps arena.old arena.new (g ∷ h ∷ []) []) }
     ensures count { OnOk result (handle_count arena.new + 1 ≡ handle_count arena.old) }

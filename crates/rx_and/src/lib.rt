@@ -2,8 +2,10 @@
 #![tactic(auto)]
 
 mod choosing;
+mod hanging;
 mod intersections;
 mod limiting;
 mod meeting;
+mod narrowing;
 
 pub use intersections::and;

@@ -10,22 +10,23 @@ use Rattle.rx_value.proofs.Ends.{end_cmp-equal, at_most-trans, at_most-antisym, 
 use Rattle.rx_value.proofs.Meeting.{met}
 use Rattle.rx_tree.specs.Tree.{Level}
 use Rattle.rx_tree.specs.Tree.Level.{end, item}
+use Rattle.rx_tree.specs.Join.{join_level}
 use Rattle.rx_tree.specs.Weld.{weld}
 use Rattle.rx_tree.specs.Meet.{piece_of, put_piece, across}
 use Rattle.rx_tree.proofs.Welding.{begins_later, weld_apart}
-use Rattle.rx_or.specs.Cover.{before, after, AreInOrder}
-use Rattle.rx_or.proofs.Order.{nothing_before}
-use Rattle.rx_cut.specs.Clip.{clipped}
-use Rattle.rx_cut.proofs.Before.{before_begins, before_order, after_order, after_all}
-use Rattle.rx_cut.proofs.Cuts.{from_end, till_end, after_by, before_by}
+use Rattle.rx_tree.specs.Cuts.{before, after, AreInOrder}
+use Rattle.rx_tree.proofs.Order.{right_order, before_keep, before_drop, nothing_before, after_drop}
+use Rattle.rx_tree.proofs.Sides.{before_begins, before_order, after_order, after_all}
+use Rattle.rx_cut.specs.Clip.{clipped, IsAlone}
+use Rattle.rx_cut.proofs.Cuts.{from_end, till_end, no_after, after_by, before_by}
 
-none_below : (s u : Span) (m : Option Span) → meet_span s u ≡ m → IsAtMost u.hi s.lo → m ≡ None
+pub none_below : (s u : Span) (m : Option Span) → meet_span s u ≡ m → IsAtMost u.hi s.lo → m ≡ None
 none_below s u None is low = refl
 none_below s u (Some m) is low =
     let x = met s u m is in
     absurd (below-irrefl m.hi (at_most-below m.hi m.lo m.hi (at_most-trans m.hi u.hi m.lo x.second.hi (at_most-trans u.hi s.lo m.lo low x.first.lo)) x.span))
 
-none_above : (s u : Span) (m : Option Span) → meet_span s u ≡ m → IsAtMost s.hi u.lo → m ≡ None
+pub none_above : (s u : Span) (m : Option Span) → meet_span s u ≡ m → IsAtMost s.hi u.lo → m ≡ None
 none_above s u None is low = refl
 none_above s u (Some m) is low =
     let x = met s u m is in
@@ -115,3 +116,34 @@ across_clipped f s (item t d rest) span order =
             ∙ sym is
       ]
     ]
+
+-- what a span has of a level that is taken apart at an item, where it reaches no other
+pub alone_clipped : (s t : Span) (d l r : Level) → IsSpan s → AreInOrder (join_level l (item t d r)) → IsBelow s.lo t.hi → IsBelow t.lo s.hi → IsAlone l r t s
+    → item (from_end s.lo (till_end s.hi t)) d end ≡ clipped s (join_level l (item t d r))
+alone_clipped s t d l r span order low high alone =
+    let u = till_end s.hi t in
+    let on = right_order l t d r order in
+    let none : before s.hi r ≡ end = elim alone.behind [
+      | inl is ↦ ap (before s.hi) is
+      | inr by ↦ nothing_before s.hi r on.3 (begins_later s.hi t.hi r by on.1)
+    ] in
+    let no : after s.lo l ≡ end = elim alone.before [
+      | inl is ↦ ap (after s.lo) is
+      | inr by ↦ no_after s.lo l t d r order by
+    ] in
+    let cut : before s.hi (join_level l (item t d r)) ≡ join_level l (item u d end) = before_by s.hi l t d r (is_at_most t.hi s.hi) refl order high ∙ ap (λ x. join_level l (item u d x)) none in
+    let ordered = subst AreInOrder cut (before_order s.hi (join_level l (item t d r)) order) in
+    sym (ap (after s.lo) cut
+    ∙ after_by s.lo l u d end (is_at_most s.lo u.lo) refl ordered (till_high s t (is_at_most t.hi s.hi) refl span low)
+    ∙ ap (λ x. join_level x (item (from_end s.lo u) d end)) no)
+
+-- what it has of one that ends where the span begins or before stands on the right of that
+pub right_clipped : (s t : Span) (d l r : Level) → IsSpan s → AreInOrder (join_level l (item t d r)) → IsAtMost t.hi s.lo → clipped s r ≡ clipped s (join_level l (item t d r))
+right_clipped s t d l r span order low =
+    let up : IsAtMost t.hi s.hi = at_most-trans t.hi s.lo s.hi low (below-at_most s.lo s.hi span) in
+    let kept = before_keep s.hi l t d r order up in
+    let ordered = subst AreInOrder kept (before_order s.hi (join_level l (item t d r)) order) in
+    sym (ap (after s.lo) kept ∙ after_drop s.lo l t d (before s.hi r) ordered low)
+
+pub left_clipped : (s t : Span) (d l r : Level) → AreInOrder (join_level l (item t d r)) → IsAtMost s.hi t.lo → clipped s l ≡ clipped s (join_level l (item t d r))
+left_clipped s t d l r order low = sym (ap (after s.lo) (before_drop s.hi l t d r order low))

@@ -1,25 +1,25 @@
 -- A lent level that is cut at an end, over stores that follow one another.
-use Rattle.std.proofs.Common.{◌≡◌, inl, inr, ◌<◌, ◌≤◌, ◌+◌, ◌-◌, ◌*◌, ◌^◌, max, Bool, true, false, cond, ℕ, zero, suc, List, [], ◌∷◌, Option, Some, None, arith, refl, ap, sym, ◌∙◌, subst}
+use Rattle.std.proofs.Common.{◌≡◌, inl, inr, ◌<◌, ◌≤◌, ◌+◌, ◌-◌, ◌*◌, max, Bool, true, false, cond, ℕ, [], ◌∷◌, Option, Some, arith, refl, ap, sym, ◌∙◌, subst}
 use Rattle.std.proofs.lemmas.Bool.{cases_lt}
-use Rattle.slab.specs.Slab.{Slab, slab_len}
+use Rattle.slab.specs.Slab.{Slab}
 use Rattle.rx_value.specs.declared.order.End.{End}
 use Rattle.rx_value.specs.declared.order.Span.{Span}
 use Rattle.rx_value.specs.Order.{is_at_most}
 use Rattle.rx_value.specs.Spans.{IsAtMost, IsBelow}
-use Rattle.rx_value.proofs.Ends.{at_most-same, at_most-trans, below-at_most, at_most-total}
+use Rattle.rx_value.proofs.Ends.{at_most-trans, below-at_most, at_most-total}
 use Rattle.rx_tree.specs.Tree.{Level}
 use Rattle.rx_tree.specs.Tree.Level.{end, item}
 use Rattle.rx_tree.specs.Join.{join_level}
 use Rattle.rx_tree.proofs.Welding.{begins_later}
 use Rattle.rx_level.specs.declared.nodes.Node.{Node}
-use Rattle.rx_level.specs.Tree.{fork_of, Fork, IsNear, IsHeight, least, tall}
-use Rattle.rx_level.specs.Store.{IsSound, owed, held_of, leads, tree_of}
+use Rattle.rx_level.specs.Tree.{fork_of, Fork, IsNear, IsHeight}
+use Rattle.rx_level.specs.Store.{IsSound, tree_of}
 use Rattle.rx_level.specs.Step.{Step, Lent, level_of, tall_of}
 use Rattle.rx_level.proofs.Heights.{even_tree, fork_tall, fork_near}
-use Rattle.rx_level.proofs.Turning.{Kept, kept_root, max_turn}
-use Rattle.rx_or.specs.Cover.{before, after, AreInOrder}
-use Rattle.rx_or.proofs.Order.{first_low, left_order, right_order, before_keep, before_drop, before_cut, nothing_before, after_drop, after_cut, after_keep}
-use Rattle.rx_cut.proofs.Staying.{Stays, stays, stays_two}
+use Rattle.rx_level.proofs.Turning.{kept_root, max_turn}
+use Rattle.rx_tree.specs.Cuts.{before, after, AreInOrder}
+use Rattle.rx_tree.proofs.Order.{first_low, left_order, right_order, before_keep, before_drop, before_cut, nothing_before, after_drop, after_cut, after_keep}
+use Rattle.rx_cut.proofs.Staying.{stays_two}
 
 -- a level that is seen at its topmost item
 pub record IsSeen (a : Slab Node) (root child left right : Option ℕ) (t : Span) : Type 0 where
@@ -56,7 +56,7 @@ from_end e t = cond (is_at_most e t.lo) t (record { lo = e; hi = t.hi })
 abbrev pub till_end : End → Span → Span
 till_end e t = cond (is_at_most t.hi e) t (record { lo = t.lo; hi = e })
 
-no_after : (e : End) (l : Level) (i : Span) (d r : Level) → AreInOrder (join_level l (item i d r)) → IsAtMost i.lo e → after e l ≡ end
+pub no_after : (e : End) (l : Level) (i : Span) (d r : Level) → AreInOrder (join_level l (item i d r)) → IsAtMost i.lo e → after e l ≡ end
 no_after e end i d r order low = refl
 no_after e (item u c l) i d r order low =
     let up : is_at_most u.hi e ≡ true = at_most-trans u.hi i.lo e (first_low u.hi l i d r order.3 order.1) low in

@@ -1,4 +1,4 @@
-pub mod Before
 pub mod Staying
+pub mod Bare
 pub mod Cuts
 pub mod Clipped

@@ -1,5 +1,5 @@
 -- What is lent, and what is held, over stores that follow one another.
-use Rattle.std.proofs.Common.{◌≡◌, ◌≤◌, ◌+◌, ℕ, List, [], ◌∷◌, Option, arith, ap, ◌∙◌}
+use Rattle.std.proofs.Common.{◌≡◌, ℕ, List, [], Option, arith, ap, ◌∙◌}
 use Rattle.slab.specs.Slab.{Slab}
 use Rattle.rx_level.specs.declared.nodes.Node.{Node}
 use Rattle.rx_tree.specs.Tree.{level_size}

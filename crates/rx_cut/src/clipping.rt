@@ -1,15 +1,18 @@
 //! Lent levels cut at ends: what lies on either side of an end, or within a span.
 
-ghost use Rattle.std.specs.Prelude.{◌≡◌, ◌<◌, ◌≤◌, ◌+◌, ◌*◌, ◌^◌, ℕ, cond, List, [], ◌∷◌, Option, Some, None, IfOk, OnOk, OnErr};
+ghost use Rattle.std.specs.Prelude.{◌≡◌, ◌⊎◌, ◌<◌, ◌≤◌, ◌+◌, ◌*◌, ◌^◌, ℕ, cond, true, false, List, [], ◌∷◌, Option, Some, None, IfSome, IfNone, IfOk, OnOk, OnErr};
 ghost use Rattle.slab.specs.Slab.{slab_len};
 ghost use Rattle.rx_value.specs.Order.{is_at_most};
 ghost use Rattle.rx_tree.specs.Join.{length_of};
 ghost use Rattle.rx_level.specs.Store.{IsSound};
 ghost use Rattle.rx_level.specs.Step.{Step, Lent, level_of, tall_of};
-ghost use Rattle.rx_or.specs.Cover.{AreInOrder, before, after};
-ghost use Rattle.rx_cut.specs.Clip.{clipped};
+ghost use Rattle.rx_value.specs.Spans.{IsSpan};
+ghost use Rattle.rx_tree.specs.Tree.Level.{item as one_item, end};
+ghost use Rattle.rx_tree.specs.Bare.{is_bare};
+ghost use Rattle.rx_tree.specs.Cuts.{AreInOrder, before, after};
+ghost use Rattle.rx_cut.specs.Clip.{clipped, IsAlone};
 
-use rx_level::{Item, Levels, Link, Owned, join};
+use rx_level::{Item, Levels, Link, Owned, Seen, join};
 use rx_value::{End, Span, is_at_most};
 use std::alloc::{AllocError, Global};
 
@@ -56,28 +59,14 @@ fn hold_both(levels: &mut Levels, one: Link, other: Link) -> Result<(), AllocErr
     Ok(())
 }
 
-/// Whether a lent level is known to have no more than one item that a span reaches: where the topmost item that it reaches
-/// covers it, or there is none. Such a span is met with that item at less cost than the level is cut at both its ends.
-pub fn reaches_one(levels: &Levels, root: Link, span: &Span) -> bool
-    requires sound { IsSound levels.now [] }
-    requires root { Lent levels.now [] root }
-    requires order { AreInOrder (level_of levels.now root) }
-{
-    let Some(seen) = levels.look(root) else {
-        return true;
-    };
-    if is_at_most(&seen.span.hi, &span.lo) {
-        return reaches_one(levels, seen.right, span);
-    }
-    if is_at_most(&span.hi, &seen.span.lo) {
-        return reaches_one(levels, seen.left, span);
-    }
-    is_at_most(&seen.span.lo, &span.lo) && is_at_most(&span.hi, &seen.span.hi)
-}
-
-// What a lent level has behind an end, as a level of its own that shares all that isn't cut. The error is
-// want of memory.
-fn behind(levels: &mut Levels, alloc: Global, root: Link, edge: &End) -> Result<Owned, AllocError>
+/// What a lent level has behind an end, as a level of its own that shares all that isn't cut. The error is
+/// want of memory.
+pub fn behind(
+    levels: &mut Levels,
+    alloc: Global,
+    root: Link,
+    edge: &End,
+) -> Result<Owned, AllocError>
     requires sound { IsSound levels.old [] }
     requires root { Lent levels.old [] root }
     requires order { AreInOrder (level_of levels.old root) }
@@ -109,9 +98,14 @@ fn behind(levels: &mut Levels, alloc: Global, root: Link, edge: &End) -> Result<
     Ok(whole)
 }
 
-// What a lent level has before an end, as a level of its own that shares all that isn't cut. The error is
-// want of memory.
-fn ahead(levels: &mut Levels, alloc: Global, root: Link, edge: &End) -> Result<Owned, AllocError>
+/// What a lent level has before an end, as a level of its own that shares all that isn't cut. The error is
+/// want of memory.
+pub fn ahead(
+    levels: &mut Levels,
+    alloc: Global,
+    root: Link,
+    edge: &End,
+) -> Result<Owned, AllocError>
     requires sound { IsSound levels.old [] }
     requires root { Lent levels.old [] root }
     requires order { AreInOrder (level_of levels.old root) }
@@ -143,7 +137,7 @@ fn ahead(levels: &mut Levels, alloc: Global, root: Link, edge: &End) -> Result<O
     Ok(whole)
 }
 
-// The same as `clip`, with the number of new items by the height of the level.
+// What a lent level has within a span, cut at both ends, with the number of new items by the height of the level.
 fn cut_twice(
     levels: &mut Levels,
     alloc: Global,
@@ -171,9 +165,88 @@ fn cut_twice(
     }
 }
 
+// Whether a level beside an item has no items, or a span is within the item on that side.
+fn is_free(levels: &Levels, side: Link, within: bool) -> bool
+    ensures yes { result ≡ true → (level_of levels.now side ≡ end) ⊎ (within ≡ true) }
+    ensures no { result ≡ false → 0 < length_of (level_of levels.now side) }
+{
+    if levels.count(side) == 0 {
+        return true;
+    }
+    within
+}
+
+// Whether a span reaches no other item of a level than its topmost one, as far as that tells.
+fn is_alone(levels: &Levels, seen: &Seen<'_>, span: &Span) -> bool
+    ensures yes { result ≡ true → IsAlone (level_of levels.now seen.now.left) (level_of levels.now seen.now.right) seen.now.span.now span.now }
+    ensures no { result ≡ false → 0 < length_of (level_of levels.now seen.now.left) + length_of (level_of levels.now seen.now.right) }
+{
+    if !is_free(levels, seen.left, is_at_most(&seen.span.lo, &span.lo)) {
+        return false;
+    }
+    is_free(levels, seen.right, is_at_most(&span.hi, &seen.span.hi))
+}
+
+// A level of one item over a lent level.
+fn alone(levels: &mut Levels, part: u32, span: Span, child: Link) -> Result<Owned, AllocError>
+    requires sound { IsSound levels.old [] }
+    requires child { Lent levels.old [] child }
+    ensures ok { IfOk result (λ r. Step levels.old levels.new [] (r ∷ [])) }
+    ensures level { IfOk result (λ r. level_of levels.new r ≡ one_item span (level_of levels.old child) end) }
+    ensures live { OnOk result (slab_len levels.new ≤ slab_len levels.old + 1) }
+    ensures err { OnErr result (Step levels.old levels.new [] []) }
+{
+    levels.hold(child)?;
+    let item = Item { part, span, child };
+    let whole = levels.branch(item, None, None)?;
+    Ok(whole)
+}
+
+// The same as `clip`, with the number of new items by the height of the level.
+fn clip_from_top(
+    levels: &mut Levels,
+    alloc: Global,
+    root: Link,
+    span: &Span,
+) -> Result<Owned, AllocError>
+    requires sound { IsSound levels.old [] }
+    requires root { Lent levels.old [] root }
+    requires order { AreInOrder (level_of levels.old root) }
+    requires span { IsSpan span.now }
+    ensures ok { IfOk result (λ r. Step levels.old levels.new [] (r ∷ [])) }
+    ensures level { IfOk result (λ r. level_of levels.new r ≡ clipped span.now (level_of levels.old root)) }
+    ensures live { OnOk result (slab_len levels.new ≤ slab_len levels.old + 8 * tall_of levels.old root) }
+    ensures one { OnOk result (length_of (level_of levels.old root) ≤ 1 → slab_len levels.new ≤ slab_len levels.old + 1) }
+    ensures err { OnErr result (Step levels.old levels.new [] []) }
+{
+    let Some(seen) = levels.look(root) else {
+        return Ok(None);
+    };
+    let part = seen.part;
+    let child = seen.child;
+    let left = seen.left;
+    let right = seen.right;
+    if is_at_most(&seen.span.hi, &span.lo) {
+        let whole = clip_from_top(levels, alloc, right, span)?;
+        return Ok(whole);
+    }
+    if is_at_most(&span.hi, &seen.span.lo) {
+        let whole = clip_from_top(levels, alloc, left, span)?;
+        return Ok(whole);
+    }
+    if is_alone(levels, &seen, span) {
+        let front = till_end(alloc, &span.hi, seen.span)?;
+        let both = from_end(alloc, &span.lo, &front)?;
+        let whole = alone(levels, part, both, child)?;
+        return Ok(whole);
+    }
+    let whole = cut_twice(levels, alloc, root, span)?;
+    Ok(whole)
+}
+
 /// The items of a lent level within a span, and of those that it cuts the parts within, as a level of its
-/// own that shares all that isn't cut: of a level of n items at most 16 items for each bit of n are new.
-/// The error is want of memory.
+/// own that shares all that isn't cut: of a level of n items at most 16 items for each bit of n are new,
+/// and of one item at most one. The error is want of memory.
 pub fn clip(
     levels: &mut Levels,
     alloc: Global,
@@ -182,14 +255,31 @@ pub fn clip(
 ) -> Result<Owned, AllocError>
     requires root { Lent levels.old [] root }
     requires order { AreInOrder (level_of levels.old root) }
+    requires span { IsSpan span.now }
     ensures ok { IfOk result (λ r. Step levels.old levels.new [] (r ∷ [])) }
     ensures level { IfOk result (λ r. level_of levels.new r ≡ clipped span.now (level_of levels.old root)) }
     ensures by_bits { OnOk result ((bits : ℕ) → length_of (level_of levels.old root) < 2 ^ bits → slab_len levels.new ≤ slab_len levels.old + 16 * bits) }
+    ensures one { OnOk result (length_of (level_of levels.old root) ≤ 1 → slab_len levels.new ≤ slab_len levels.old + 1) }
     ensures err { OnErr result (Step levels.old levels.new [] []) }
 {
     levels.sound();
-    match cut_twice(levels, alloc, root, span) {
+    match clip_from_top(levels, alloc, root, span) {
         Ok(whole) => Ok(whole),
         Err(error) => Err(error),
     }
+}
+
+/// The span of a lent level that is one item without a child, none for every other level.
+pub fn bare_span(levels: &Levels, root: Link) -> Option<&Span>
+    requires { Lent levels.now [] root }
+    ensures some { IfSome result (λ span. level_of levels.now root ≡ one_item span.now end end) }
+    ensures none { IfNone result (is_bare (level_of levels.now root) ≡ false) }
+{
+    let Some(top) = levels.look(root) else {
+        return None;
+    };
+    if levels.count(top.left) != 0 || levels.count(top.right) != 0 || levels.count(top.child) != 0 {
+        return None;
+    }
+    Some(top.span)
 }

@@ -3,4 +3,4 @@
 
 mod clipping;
 
-pub use clipping::{clip, reaches_one};
+pub use clipping::{ahead, bare_span, behind, clip};

@@ -56,7 +56,7 @@ deep_or : (x : Bool) (a b w : ℕ) → (x ≡ true → a < b) → (x ≡ false �
 deep_or true a b w h k = let low = h refl in omega (arith, low)
 deep_or false a b w h k = let low = k refl in omega (arith, low)
 
-constrains_deep : (ns : List Bool) (g : Level) (k : ℕ) → level_constrains ns g k ≡ true → k < depth_of g
+pub constrains_deep : (ns : List Bool) (g : Level) (k : ℕ) → level_constrains ns g k ≡ true → k < depth_of g
 constrains_deep ns end k e = absurd (cc e)
 constrains_deep [] (item s c rest) k e = absurd (cc e)
 constrains_deep (n ∷ ns) (item s c rest) zero e = omega arith
@@ -78,7 +78,7 @@ long_or true ns d k h = let low = h refl in omega (arith, low)
 long_or false ns d k h = omega arith
 
 -- a level constrains no part that its whole items go down to
-chain_free : (ns : List Bool) (h : Level) (k : ℕ) → level_constrains ns h k ≡ true → length (chain ns h) ≤ k
+pub chain_free : (ns : List Bool) (h : Level) (k : ℕ) → level_constrains ns h k ≡ true → length (chain ns h) ≤ k
 chain_free [] h k e = omega arith
 chain_free (n ∷ ns) end k e = omega arith
 chain_free (n ∷ ns) (item s c (item t d rest)) k e = omega arith

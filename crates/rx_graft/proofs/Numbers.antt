@@ -13,7 +13,7 @@ use Rattle.rx_graft.proofs.ListedLinks.{is_same}
 abbrev pub marks_in : List Bool → ℕ
 marks_in marks = count_by (λ marked. marked) marks
 
-count-cons : (b : Bool) (bs : List Bool) → marks_in (b ∷ bs) ≡ cond b 1 0 + marks_in bs
+pub count-cons : (b : Bool) (bs : List Bool) → marks_in (b ∷ bs) ≡ cond b 1 0 + marks_in bs
 count-cons b bs = sum_by-cons (λ x. cond x 1 0) b bs
 
 one_mark : (b : Bool) → cond b 1 0 ≤ 1

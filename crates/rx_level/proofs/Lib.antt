@@ -13,3 +13,4 @@ pub mod Depth
 pub mod Entries
 pub mod Marks
 pub mod Standing
+pub mod Bits

@@ -2,23 +2,21 @@
 use Rattle.std.proofs.Common.{◌≡◌, ◌&&◌, ◌-◌, ◌≤◌, Bool, true, false, cond, List, [], ◌∷◌, length, get_or, take, drop, length-drop, refl, ap, ap₂, sym, ◌∙◌, arith}
 use Rattle.std.proofs.lemmas.List.{take_all}
 use Rattle.rx_value.specs.declared.order.Span.{Span}
-use Rattle.rx_value.specs.Spans.{IsSpan, is_whole_span}
+use Rattle.rx_value.specs.Spans.{is_whole_span}
 use Rattle.rx_tree.specs.Tree.{Level, is_end}
 use Rattle.rx_tree.specs.Tree.Level.{end, item}
 use Rattle.rx_tree.specs.Join.{join_level, length_of}
 use Rattle.rx_tree.specs.Canonical.{ArePlaced}
-use Rattle.rx_tree.specs.Union.{lay, lay_all, either_child, is_all}
-use Rattle.rx_tree.proofs.Layers.{IsNew, lay_law, lay_all_law}
-use Rattle.rx_tree.proofs.Either.{either_law}
-use Rattle.rx_or.specs.Cover.{covered, AreInOrder}
-use Rattle.rx_or.specs.Below.{union_below, ArePlacedBelow, unless_all, is_bare, covered_by}
-use Rattle.rx_or.proofs.Order.{left_begins, left_differs}
-use Rattle.rx_or.proofs.Covered.{placed_order, covered_lay, lay_all_turn}
-
--- the items of a level in three steps: those after one, that one, and those before
-pub lay_join : (f : Level → Level → Level) (l : Level) (i : Span) (d r b : Level) → lay_all f (join_level l (item i d r)) b ≡ lay_all f l (lay f i d (lay_all f r b))
-lay_join f end i d r b = refl
-lay_join f (item u c l) i d r b = ap (lay f u c) (lay_join f l i d r b)
+use Rattle.rx_tree.specs.Union.{lay_all, either_child, either, is_all}
+use Rattle.rx_tree.proofs.Layers.{IsNew}
+use Rattle.rx_tree.proofs.Unions.{either_turn}
+use Rattle.rx_tree.specs.Cuts.{AreInOrder}
+use Rattle.rx_tree.specs.Bare.{is_bare}
+use Rattle.rx_or.specs.Cover.{covered}
+use Rattle.rx_or.specs.Below.{union_below, ArePlacedBelow, unless_all, covered_by}
+use Rattle.rx_tree.proofs.Order.{left_begins, left_differs}
+use Rattle.rx_tree.proofs.Sides.{placed_order}
+use Rattle.rx_or.proofs.Covered.{covered_lay}
 
 pub placed_left : (parts : List Bool) (l m : Level) → ArePlaced parts (join_level l m) → ArePlaced parts l
 placed_left [] end m placed = tt
@@ -53,19 +51,8 @@ placed_below (n ∷ ns) s c rest placed = placed.2
 new_alone : (n : Bool) (ns : List Bool) (s : Span) (c : Level) → ArePlaced (n ∷ ns) (item s c end) → IsNew n ns s c
 new_alone n ns s c placed = record { span = placed.0.span; from = placed.0.from; child = record { placed = placed.2; not_all = placed.1 } }
 
--- an item laid over a level in place leaves it in place
-pub lay_placed : (parts : List Bool) (s : Span) (c l : Level) → ArePlaced parts (item s c end) → ArePlaced parts l → ArePlaced parts (lay (union_below parts) s c l)
-lay_placed [] s c l alone placed = absurd alone
-lay_placed (n ∷ ns) s c l alone placed = (lay_law (either_child ns) n ns c l (either_law ns) placed s (new_alone n ns s c alone)).placed
-
--- and so do the items of a level
-pub lay_all_placed : (parts : List Bool) (a b : Level) → ArePlaced parts a → ArePlaced parts b → ArePlaced parts (lay_all (union_below parts) a b)
-lay_all_placed [] end b first second = second
-lay_all_placed [] (item s c rest) b first second = absurd first
-lay_all_placed (n ∷ ns) a b first second = (lay_all_law (either_child ns) n ns a b (either_law ns) first second).placed
-
 -- covering a level lays an item without a child over it
-pub cover_lay : (parts : List Bool) (s : Span) (c l : Level) → c ≡ end → ArePlaced parts (item s c end) → ArePlaced parts l → covered s l ≡ lay (union_below parts) s c l
+cover_lay : (parts : List Bool) (s : Span) (c l : Level) → c ≡ end → ArePlaced parts (item s c end) → ArePlaced parts l → covered s l ≡ either parts (item s c end) l
 cover_lay [] s c l is alone placed = absurd alone
 cover_lay (n ∷ ns) s end l is alone placed = covered_lay n ns s l placed (new_alone n ns s end alone)
 cover_lay (n ∷ ns) s (item t d rest) l is alone placed = absurd (cc is)
@@ -112,9 +99,9 @@ either_some m ms (item s c rest) end some other = absurd (other refl)
 either_some m ms (item s c rest) (item t d more) some other = refl
 
 -- below two children that have items goes on the union of their levels, or all where that is all
-pub below_some : (parts below ms : List Bool) (n m : Bool) (c d l : Level) → parts ≡ n ∷ below → below ≡ m ∷ ms → (length_of c ≡ 0 → ⊥) → (length_of d ≡ 0 → ⊥) → l ≡ lay_all (union_below below) c d → cond (is_all m l) end l ≡ union_below parts c d
+pub below_some : (parts below ms : List Bool) (n m : Bool) (c d l : Level) → parts ≡ n ∷ below → below ≡ m ∷ ms → (length_of c ≡ 0 → ⊥) → (length_of d ≡ 0 → ⊥) → l ≡ either below c d → cond (is_all m l) end l ≡ union_below parts c d
 below_some parts below ms n m c d l e f some other is =
-    let laid : l ≡ lay_all (either_child ms) c d = is ∙ ap (λ p. lay_all (union_below p) c d) f in
+    let laid : l ≡ lay_all (either_child ms) c d = is ∙ ap (λ p. either p c d) f in
     ap (λ x. cond (is_all m x) end x) laid
     ∙ either_some m ms c d some other
     ∙ sym (ap (λ p. union_below p c d) (e ∙ ap (λ x. n ∷ x) f))
@@ -216,19 +203,12 @@ pub bare_opened : (left c right x : Level) (s : Span) → is_bare (join_level le
 bare_opened end c right x s e = refl
 bare_opened (item t d rest) c right x s e = absurd (cc (sym (and_none (is_end d) (is_end (join_level rest (item s c right))) (join_some rest s c right)) ∙ e))
 
--- it is the same which of two levels is laid over the other
-pub parts_turn : (parts : List Bool) (a b : Level) → ArePlaced parts a → ArePlaced parts b → lay_all (union_below parts) a b ≡ lay_all (union_below parts) b a
-parts_turn [] end end first second = refl
-parts_turn [] end (item s c rest) first second = absurd second
-parts_turn [] (item s c rest) b first second = absurd first
-parts_turn (n ∷ ns) a b first second = lay_all_turn n ns a b first second
-
-bare_cover : (parts : List Bool) (g : Level) (s : Span) (c rest : Level) → c ≡ end → rest ≡ end → ArePlaced parts g → ArePlaced parts (item s c rest) → covered s g ≡ lay_all (union_below parts) g (item s c rest)
-bare_cover parts g s end end e f first second = cover_lay parts s end g refl second first ∙ sym (parts_turn parts g (item s end end) first second)
+bare_cover : (parts : List Bool) (g : Level) (s : Span) (c rest : Level) → c ≡ end → rest ≡ end → ArePlaced parts g → ArePlaced parts (item s c rest) → covered s g ≡ either parts g (item s c rest)
+bare_cover parts g s end end e f first second = cover_lay parts s end g refl second first ∙ sym (either_turn parts g (item s end end) first second)
 bare_cover parts g s end (item u x more) e f first second = absurd (cc f)
 bare_cover parts g s (item t d more) rest e f first second = absurd (cc e)
 
-pub bare_lay : (parts : List Bool) (g h : Level) → is_bare h ≡ true → ArePlaced parts g → ArePlaced parts h → covered_by h g ≡ lay_all (union_below parts) g h
+pub bare_lay : (parts : List Bool) (g h : Level) → is_bare h ≡ true → ArePlaced parts g → ArePlaced parts h → covered_by h g ≡ either parts g h
 bare_lay parts g end e first second = absurd (cc e)
 bare_lay parts g (item s c rest) e first second =
     let ends = both_true (is_end c) (is_end rest) e in
@@ -243,7 +223,3 @@ some_unless parts n ns l b is e not = sym (ap (λ p. unless_all p l) is ∙ ap (
 
 pub none_unless : (parts : List Bool) (l : Level) → parts ≡ [] → end ≡ unless_all parts l
 none_unless parts l is = sym (ap (λ p. unless_all p l) is)
-
-pub alone_span : (parts : List Bool) (s : Span) (c : Level) → ArePlaced parts (item s c end) → IsSpan s
-alone_span [] s c alone = absurd alone
-alone_span (n ∷ ns) s c alone = alone.0.span

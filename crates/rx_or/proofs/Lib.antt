@@ -1,12 +1,8 @@
-pub mod Order
 pub mod Reaching
 pub mod Compared
 pub mod Opened
 pub mod Covered
-pub mod Stretched
 pub mod Laid
-pub mod Aside
-pub mod Bools
-pub mod Across
-pub mod Following
 pub mod UnionRoots
+pub mod Neighbours
+pub mod United

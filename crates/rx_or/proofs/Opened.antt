@@ -1,5 +1,5 @@
 -- A level that is taken apart at its topmost item and cut, over stores that follow one another.
-use Rattle.std.proofs.Common.{◌≡◌, inl, inr, ◌<◌, ◌≤◌, ◌+◌, ◌-◌, ◌*◌, ◌^◌, max, ℕ, zero, suc, List, [], ◌∷◌, Option, Some, None, IsSome, arith, refl, ap, sym, ◌∙◌, subst}
+use Rattle.std.proofs.Common.{◌≡◌, inl, inr, ◌<◌, ◌≤◌, ◌+◌, ◌-◌, ◌*◌, max, ℕ, List, [], ◌∷◌, Option, Some, None, IsSome, arith, refl, ap, sym, ◌∙◌, subst}
 use Rattle.std.proofs.lemmas.Bool.{cases_lt}
 use Rattle.slab.specs.Slab.{Slab, get}
 use Rattle.rx_value.specs.declared.order.End.{End}
@@ -11,13 +11,14 @@ use Rattle.rx_tree.specs.Weld.{weld, glue}
 use Rattle.rx_level.specs.declared.nodes.Node.{Node}
 use Rattle.rx_level.specs.declared.trees.Item.{Item}
 use Rattle.rx_tree.specs.Join.{join_level}
-use Rattle.rx_level.specs.Tree.{IsNear, IsHeight, least}
+use Rattle.rx_level.specs.Tree.{IsNear, IsHeight}
 use Rattle.rx_level.specs.Store.{IsSound, held_of, leads, owed, body_in}
 use Rattle.rx_level.specs.Step.{Owns, Step, level_of, tall_of, between}
 use Rattle.rx_level.proofs.Steps.{held_there, level_of-parts}
 use Rattle.rx_level.proofs.Turning.{Kept, kept_root, max_turn}
-use Rattle.rx_or.specs.Cover.{before, after, covered, AreInOrder, IsCutBefore, IsCutAfter}
-use Rattle.rx_or.proofs.Order.{till, left_order, right_order}
+use Rattle.rx_tree.specs.Cuts.{before, after, AreInOrder}
+use Rattle.rx_or.specs.Cover.{covered, IsCutBefore, IsCutAfter}
+use Rattle.rx_tree.proofs.Order.{till, left_order, right_order}
 use Rattle.rx_or.proofs.Reaching.{apart_before, beyond_before, joined_before, across_before, apart_after, beyond_after, joined_after, across_after}
 
 not_end : (a : Level) (s : Span) (c r : Level) → join_level a (item s c r) ≡ end → ⊥
@@ -237,16 +238,3 @@ covered_height a b d root front owns one two =
 
 pub covered_live : (h x y n0 n1 n2 n3 n4 : ℕ) → x ≤ h → y ≤ h → n1 ≤ n0 → n2 ≤ n1 + 3 * x + h → n3 ≤ n2 + 3 * y + h → n4 ≤ n3 + 3 * ((x - y) + (y - x)) + 1 → n4 ≤ n0 + 8 * h + 1
 covered_live h x y n0 n1 n2 n3 n4 first second one two three four = omega (arith, first, second, one, two, three, four)
-
-least_more : (h : ℕ) → least h ≤ least (suc h)
-least_more zero = omega arith
-least_more (suc h) = omega arith
-
--- a level's height is at most twice the bits of the number of its items
-pub low_bits : (b h : ℕ) → least h < 2 ^ b → h ≤ 2 * b
-low_bits zero zero less = omega arith
-low_bits zero (suc zero) less = absurd (omega (arith, less))
-low_bits zero (suc (suc h)) less = absurd (omega (arith, less))
-low_bits (suc b) zero less = omega arith
-low_bits (suc b) (suc zero) less = omega arith
-low_bits (suc b) (suc (suc h)) less = omega (arith, low_bits b h (omega (arith, less, least_more h)))

@@ -12,9 +12,16 @@ use Rattle.rx_tree.specs.Weld.{is_same_end, weld, glue}
 use Rattle.rx_tree.proofs.Welding.{weld_apart, same_end-itself}
 use Rattle.rx_tree.specs.Join.{join_level}
 use Rattle.rx_level.proofs.Steps.{join_assoc}
-use Rattle.rx_or.specs.Cover.{before, after, AreInOrder, IsCutBefore, IsCutAfter}
+use Rattle.rx_tree.specs.Cuts.{before, after, AreInOrder}
+use Rattle.rx_or.specs.Cover.{IsCutBefore, IsCutAfter}
 use Rattle.rx_weld.proofs.Seamless.{differs_weld, weld_twice, weld_join, glue_join}
-use Rattle.rx_or.proofs.Order.{till, order_apart, right_order, before_keep, before_drop, before_cut, nothing_before, after_drop, after_cut, after_keep}
+use Rattle.rx_weld.specs.Seamless.{IsSeamless}
+use Rattle.rx_tree.proofs.Order.{till, right_order, before_keep, before_drop, before_cut, nothing_before, after_drop, after_cut, after_keep}
+
+-- neighbours in order can't be one item
+pub order_apart : (l : Level) → AreInOrder l → IsSeamless l
+order_apart end order = tt
+order_apart (item s c rest) order = (order.2, order_apart rest order.3)
 
 differs_before : (e hi : End) (s : Span) (c t' : Level) (t : Span) (d y : Level) (a b : Bool) → (s.hi ≡ t.lo → c ≡ d → ⊥) → Differs s c y → Differs s c (glue (cond a (item t d t') (cond b end (item (record { lo = t.lo; hi = e }) d end))) y)
 differs_before e hi s c t' t d y true b first second = differs_weld s c t d (glue t' y) first

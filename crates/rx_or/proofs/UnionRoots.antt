@@ -7,7 +7,7 @@ use Rattle.rx_tree.specs.Tree.Level.{end, item}
 use Rattle.rx_tree.specs.Tree.Tree.{everything, items}
 use Rattle.rx_tree.specs.Member.{IsTuple, holds}
 use Rattle.rx_tree.specs.Canonical.{ArePlaced, IsCanonical}
-use Rattle.rx_tree.specs.Union.{is_all, lay_all, either_child, tree_or}
+use Rattle.rx_tree.specs.Union.{is_all, lay_all, either_child, either, tree_or}
 use Rattle.rx_tree.proofs.Either.{or_canonical, or_holds}
 use Rattle.rx_level.specs.declared.nodes.Node.{Node}
 use Rattle.rx_level.specs.Step.{Owns, Step, level_of}
@@ -16,7 +16,7 @@ use Rattle.rx_graph.specs.declared.handles.Root.TheVariants.{Items}
 use Rattle.rx_graph.specs.Graph.{Graph, Steps, IsHeld, AreCanonical, tree_in}
 use Rattle.rx_graph.proofs.GraphSteps.{canonical_given}
 use Rattle.rx_graph.proofs.Back.{times_first, times_second}
-use Rattle.rx_or.specs.Below.{union_below, unless_all}
+use Rattle.rx_or.specs.Below.{unless_all}
 use Rattle.rx_or.proofs.Opened.{some_level}
 
 -- the trees of two held graphs are canonical
@@ -56,7 +56,7 @@ some_by true l x is some = absurd (some is)
 some_by false l x is some = ap items is
 
 -- the level that stands for either of two is a tree's where it has items
-pub tree_some : (parts : List Bool) (g h x : Level) → x ≡ unless_all parts (lay_all (union_below parts) g h) → (x ≡ end → ⊥) → items x ≡ tree_or parts (items g) (items h)
+pub tree_some : (parts : List Bool) (g h x : Level) → x ≡ unless_all parts (either parts g h) → (x ≡ end → ⊥) → items x ≡ tree_or parts (items g) (items h)
 tree_some [] g h x is some = absurd (some is)
 tree_some (n ∷ ns) g h x is some = some_by (is_all n (lay_all (either_child ns) g h)) (lay_all (either_child ns) g h) x is some
 
@@ -65,7 +65,7 @@ none_by n ns true l is canonical = refl
 none_by n ns false l is canonical = absurd (subst (λ (x : Level). IsCanonical (n ∷ ns) (items x)) (sym is) canonical)
 
 -- and everything where it has none
-pub tree_none : (parts : List Bool) (g h : Level) → IsCanonical parts (items g) → IsCanonical parts (items h) → end ≡ unless_all parts (lay_all (union_below parts) g h) → everything ≡ tree_or parts (items g) (items h)
+pub tree_none : (parts : List Bool) (g h : Level) → IsCanonical parts (items g) → IsCanonical parts (items h) → end ≡ unless_all parts (either parts g h) → everything ≡ tree_or parts (items g) (items h)
 tree_none [] g h first second is = refl
 tree_none (n ∷ ns) g h first second is =
     none_by n ns (is_all n (lay_all (either_child ns) g h)) (lay_all (either_child ns) g h) is (or_canonical (n ∷ ns) (items g) (items h) first second)
@@ -75,25 +75,25 @@ size_by true l = refl
 size_by false l = refl
 
 -- its size is the tree's
-pub tree_or_size : (parts : List Bool) (g h : Level) → level_size (unless_all parts (lay_all (union_below parts) g h)) ≡ size (tree_or parts (items g) (items h))
+pub tree_or_size : (parts : List Bool) (g h : Level) → level_size (unless_all parts (either parts g h)) ≡ size (tree_or parts (items g) (items h))
 tree_or_size [] g h = refl
 tree_or_size (n ∷ ns) g h = size_by (is_all n (lay_all (either_child ns) g h)) (lay_all (either_child ns) g h)
 
 -- what is said of the levels that were taken, of those in the arena
 pub record AreBack (old : Graph) (taken : Slab Node) (parts : List Bool) (g h : ℕ) : Type 0 where
-  pub level : unless_all parts (lay_all (union_below parts) (level_of taken (Some g)) (level_of taken (Some h))) ≡ unless_all old.nullable (lay_all (union_below old.nullable) (level_of old.store (Some g)) (level_of old.store (Some h)))
+  pub level : unless_all parts (either parts (level_of taken (Some g)) (level_of taken (Some h))) ≡ unless_all old.nullable (either old.nullable (level_of old.store (Some g)) (level_of old.store (Some h)))
 
 pub are_back : (old mid : Graph) (taken : Slab Node) (parts : List Bool) (g h : ℕ) → taken ≡ old.store → mid ≡ record old { store = mid.store } → parts ≡ mid.nullable → AreBack old taken parts g h
 are_back old mid taken parts g h is_taken is_mid is_parts =
     let same : parts ≡ old.nullable = is_parts ∙ ap (λ x. x.nullable) is_mid in
-    record { level = ap₂ (λ p s. unless_all p (lay_all (union_below p) (level_of s (Some g)) (level_of s (Some h)))) same is_taken }
+    record { level = ap₂ (λ p s. unless_all p (either p (level_of s (Some g)) (level_of s (Some h)))) same is_taken }
 
 -- a level with items that is put back is the tree of its root
 pub some_tree : (old mid new : Graph) (taken levels : Slab Node) (parts : List Bool) (g h key : ℕ) (o : Option ℕ) (r : Root)
     → taken ≡ old.store → mid ≡ record old { store = mid.store } → parts ≡ mid.nullable → new ≡ record mid { store = levels }
     → Owns taken (Some g ∷ Some h ∷ [])
     → Step taken levels (Some g ∷ Some h ∷ []) (o ∷ []) → o ≡ Some key → r ≡ Items key
-    → level_of levels o ≡ unless_all parts (lay_all (union_below parts) (level_of taken (Some g)) (level_of taken (Some h)))
+    → level_of levels o ≡ unless_all parts (either parts (level_of taken (Some g)) (level_of taken (Some h)))
     → tree_in new r ≡ tree_or old.nullable (tree_in old (Items g)) (tree_in old (Items h))
 some_tree old mid new taken levels parts g h key o r is_taken is_mid is_parts is_new owns step is is_root level =
     let back = are_back old mid taken parts g h is_taken is_mid is_parts in
@@ -108,7 +108,7 @@ pub some_canonical : (old mid : Graph) (taken levels : Slab Node) (parts : List 
     → taken ≡ old.store → mid ≡ record old { store = mid.store } → parts ≡ mid.nullable → o ≡ Some key
     → IsHeld old (Items g ∷ Items h ∷ []) → Owns taken (Some g ∷ Some h ∷ [])
     → Step taken levels (Some g ∷ Some h ∷ []) (o ∷ [])
-    → level_of levels o ≡ unless_all parts (lay_all (union_below parts) (level_of taken (Some g)) (level_of taken (Some h)))
+    → level_of levels o ≡ unless_all parts (either parts (level_of taken (Some g)) (level_of taken (Some h)))
     → AreCanonical old → IsCanonical old.nullable (items (level_of levels o))
 some_canonical old mid taken levels parts g h key o is_taken is_mid is_parts is held owns step level was =
     let tree = some_tree old mid (record mid { store = levels }) taken levels parts g h key o (Items key) is_taken is_mid is_parts refl owns step is refl level in
@@ -120,7 +120,7 @@ some_canonical old mid taken levels parts g h key o is_taken is_mid is_parts is 
 pub none_tree : (old mid : Graph) (taken levels : Slab Node) (parts : List Bool) (g h : ℕ) (o : Option ℕ)
     → taken ≡ old.store → mid ≡ record old { store = mid.store } → parts ≡ mid.nullable
     → IsHeld old (Items g ∷ Items h ∷ []) → AreCanonical old → o ≡ None
-    → level_of levels o ≡ unless_all parts (lay_all (union_below parts) (level_of taken (Some g)) (level_of taken (Some h)))
+    → level_of levels o ≡ unless_all parts (either parts (level_of taken (Some g)) (level_of taken (Some h)))
     → everything ≡ tree_or old.nullable (tree_in old (Items g)) (tree_in old (Items h))
 none_tree old mid taken levels parts g h o is_taken is_mid is_parts held was is level =
     let back = are_back old mid taken parts g h is_taken is_mid is_parts in
@@ -130,7 +130,7 @@ none_tree old mid taken levels parts g h o is_taken is_mid is_parts held was is 
 -- the size of the tree of either, from that of its level
 pub size_back : (old mid : Graph) (taken : Slab Node) (parts : List Bool) (g h : ℕ)
     → taken ≡ old.store → mid ≡ record old { store = mid.store } → parts ≡ mid.nullable
-    → level_size (unless_all parts (lay_all (union_below parts) (level_of taken (Some g)) (level_of taken (Some h)))) ≡ size (tree_or old.nullable (tree_in old (Items g)) (tree_in old (Items h)))
+    → level_size (unless_all parts (either parts (level_of taken (Some g)) (level_of taken (Some h)))) ≡ size (tree_or old.nullable (tree_in old (Items g)) (tree_in old (Items h)))
 size_back old mid taken parts g h is_taken is_mid is_parts =
     ap level_size ((are_back old mid taken parts g h is_taken is_mid is_parts).level) ∙ tree_or_size old.nullable (level_of old.store (Some g)) (level_of old.store (Some h))
 

@@ -1,3 +1,4 @@
 pub mod Cover
 pub mod Below
 pub mod Places
+pub mod Beside

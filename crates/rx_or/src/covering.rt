@@ -4,7 +4,8 @@ ghost use Rattle.std.specs.Prelude.{◌≡◌, ◌<◌, ◌≤◌, ◌+◌, ◌*
 ghost use Rattle.slab.specs.Slab.{slab_len};
 ghost use Rattle.rx_tree.specs.Join.{length_of};
 ghost use Rattle.rx_level.specs.Step.{Owns, Step, level_of, tall_of};
-ghost use Rattle.rx_or.specs.Cover.{AreInOrder, covered};
+ghost use Rattle.rx_tree.specs.Cuts.{AreInOrder};
+ghost use Rattle.rx_or.specs.Cover.{covered};
 
 use crate::cutting::{cut_after, cut_before};
 use rx_level::{Item, Levels, Owned, join};

@@ -5,7 +5,8 @@ ghost use Rattle.slab.specs.Slab.{slab_len};
 ghost use Rattle.rx_level.specs.Step.{Owns, Step, level_of, tall_of};
 ghost use Rattle.rx_tree.specs.Tree.Level.{item as one_item, end as no_items};
 ghost use Rattle.rx_tree.specs.Join.{join_level};
-ghost use Rattle.rx_or.specs.Cover.{AreInOrder, IsCutBefore, IsCutAfter};
+ghost use Rattle.rx_tree.specs.Cuts.{AreInOrder};
+ghost use Rattle.rx_or.specs.Cover.{IsCutBefore, IsCutAfter};
 ghost use Rattle.rx_or.specs.Places.{IsPlaceBefore, IsPlaceAfter};
 
 use rx_level::{Item, Levels, Owned, join};

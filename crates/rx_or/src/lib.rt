@@ -2,11 +2,10 @@
 #![tactic(auto)]
 
 mod all_keys;
+mod beside;
 mod covering;
 mod cutting;
 mod either;
-mod pieces;
-mod stretches;
 mod unions;
 mod uniting;
 

@@ -8,7 +8,7 @@ ghost use Rattle.rx_tree.specs.Member.{IsTuple, holds};
 ghost use Rattle.rx_tree.specs.Union.{tree_or};
 ghost use Rattle.rx_graph.specs.declared.handles.Root.TheVariants.{Items as items_root};
 ghost use Rattle.rx_graph.specs.Graph.{Steps, IsHeld, AreCanonical, handle_count, tree_in};
-ghost use Rattle.rx_or.specs.Below.{is_span, first_length};
+ghost use Rattle.rx_tree.specs.Bare.{is_span, first_length};
 
 use crate::either::level_or;
 use rx_graph::{Arena, GraphFault, Handle, Root, second_within};
@@ -29,6 +29,8 @@ fn items_or(
     ensures small { IfOk result (λ r. size (tree_in arena.new r) ≤ limit) }
     ensures over { IfErr result (λ fault. fault ≡ GraphFault.OverLimit → limit < size (tree_or arena.old.nullable (tree_in arena.old (items_root g)) (tree_in arena.old (items_root h)))) }
     ensures live { is_span (tree_in arena.old (items_root h)) ≡ true → (bits : ℕ) → first_length (tree_in arena.old (items_root g)) < 2 ^ bits → slab_len arena.new.store ≤ slab_len arena.old.store + 16 * bits + 16 }
+    ensures live_turned { is_span (tree_in arena.old (items_root g)) ≡ true → (bits : ℕ) → first_length (tree_in arena.old (items_root h)) < 2 ^ bits → slab_len arena.new.store ≤ slab_len arena.old.store + 16 * bits + 16 }
+    ensures same { OnOk result (g ≡ h → slab_len arena.new.store ≤ slab_len arena.old.store) }
     ensures err { OnErr result (Steps arena.old arena.new (items_root g ∷ items_root h ∷ []) []) }
 {
     arena.sound();
@@ -50,8 +52,9 @@ fn items_or(
 }
 
 /// The keys that one of two graphs holds. Both are spent in every case, and every other handle keeps its
-/// tree. Where the second is one span of the first part without a child, and the first level of the first
-/// has n items, at most 16 new items for each bit of n, and 16, are made, whoever else holds the first.
+/// tree. Where one of them is one span of the first part without a child, and the first level of the other
+/// has n items, at most 16 new items for each bit of n, and 16, are made, whoever else holds that. Where both
+/// are one graph, no item is new.
 ///
 /// # Errors
 ///
@@ -72,6 +75,8 @@ pub fn or(
     ensures small { IfOk result (λ r. size (tree_in arena.new r) ≤ limit) }
     ensures over { IfErr result (λ fault. fault ≡ GraphFault.OverLimit → limit < size (tree_or arena.old.nullable (tree_in arena.old g) (tree_in arena.old h))) }
     ensures live { is_span (tree_in arena.old h) ≡ true → (bits : ℕ) → first_length (tree_in arena.old g) < 2 ^ bits → slab_len arena.new.store ≤ slab_len arena.old.store + 16 * bits + 16 }
+    ensures live_turned { is_span (tree_in arena.old g) ≡ true → (bits : ℕ) → first_length (tree_in arena.old h) < 2 ^ bits → slab_len arena.new.store ≤ slab_len arena.old.store + 16 * bits + 16 }
+    ensures same { OnOk result (g ≡ h → slab_len arena.new.store ≤ slab_len arena.old.store) }
     ensures err { OnErr result (Steps arena.old arena.new (g ∷ h ∷ []) []) }
     ensures count { OnOk result (handle_count arena.new + 1 ≡ handle_count arena.old) }
     ensures err_count { OnErr result (handle_count arena.new + 2 ≡ handle_count arena.old) }

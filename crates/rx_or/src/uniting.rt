@@ -1,353 +1,78 @@
-//! The items of one level laid over another.
+//! Either of two lent levels: the items of the one that has fewer, each with what the other has within it,
+//! and between them what the other has there.
 
-ghost use Rattle.std.specs.Prelude.{◌≡◌, ◌<◌, Bool, List, [], ◌∷◌, Option, Some, None, IfOk, OnErr};
-ghost use Rattle.rx_value.specs.Spans.{IsAtMost, IsBelow, later, earlier};
-ghost use Rattle.rx_tree.specs.Tree.{Level};
+ghost use Rattle.std.specs.Prelude.{◌≡◌, ◌<◌, ◌≤◌, ◌+◌, ℕ, List, [], ◌∷◌, Option, Some, None, IfOk, IfErr, OnErr};
+ghost use Rattle.rx_tree.specs.Tree.{Level, level_size};
 ghost use Rattle.rx_tree.specs.Tree.Level.{item as one_item, end as no_items};
 ghost use Rattle.rx_tree.specs.Canonical.{ArePlaced};
-ghost use Rattle.rx_tree.specs.Union.{lay, lay_all};
-ghost use Rattle.rx_level.specs.Step.{Owns, Step, level_of, between};
-ghost use Rattle.rx_or.specs.declared.uniting.Beside.TheVariants.{Left, Right, Neither};
-ghost use Rattle.rx_or.specs.Below.{union_below, ahead, past, in_parts, ArePlacedBelow};
+ghost use Rattle.rx_tree.specs.Cuts.{before, after};
+ghost use Rattle.rx_tree.specs.Fill.{MayFill, filled};
+ghost use Rattle.rx_tree.specs.Union.{either};
+ghost use Rattle.rx_level.specs.Store.{IsSound};
+ghost use Rattle.rx_level.specs.Step.{Step, Lent, level_of};
+ghost use Rattle.rx_cut.specs.Clip.{clipped};
+ghost use Rattle.rx_or.specs.Below.{union_below, ArePlacedBelow};
 
 use crate::all_keys::is_all;
-use crate::covering::cover;
-use crate::pieces::{have_common, spread};
-use crate::stretches::shared_item;
-use rx_level::{Item, Levels, Link, Opened, Owned, join};
-use rx_value::{End, Span, compare_ends};
-use rx_weld::glue;
+use rx_cut::{ahead, behind, clip};
+use rx_graph::GraphFault;
+use rx_level::{Item, Levels, Link, Owned};
+use rx_limit::{glue_three, hold_within, is_same_link};
+use rx_value::{End, Span, is_at_most};
 use std::alloc::{AllocError, Global};
-use std::cmp::Ordering;
 
-// On which side of an item a span lies that doesn't even touch it.
-#[derive(Clone, Copy)]
-enum Beside {
-    Left,
-    Right,
-    Neither,
-}
-
-fn place_beside(span: &Span, item: &Span) -> Beside
-    ensures right { result ≡ Right → IsBelow item.now.hi span.now.lo }
-    ensures left { result ≡ Left → IsBelow span.now.hi item.now.lo }
-    ensures neither { result ≡ Neither → IsAtMost span.now.lo item.now.hi × IsAtMost item.now.lo span.now.hi }
-{
-    let Ordering::Less = compare_ends(&item.hi, &span.lo) else {
-        return match compare_ends(&span.hi, &item.lo) {
-            Ordering::Less => Beside::Left,
-            _ => Beside::Neither,
-        };
-    };
-    Beside::Right
-}
-
-/// The items of the first level laid over the second. The list says of the parts from that of the levels
-/// on whether each may be NULL. Both handles are spent in every case. The error is want of memory.
-#[cycle(unite)]
-pub fn lay_items(
+// A level of one item between two ends, which is of this part, over a lent level.
+fn alone(
     levels: &mut Levels,
     alloc: Global,
-    parts: &[bool],
-    g: Owned,
-    h: Owned,
-) -> Result<Owned, AllocError>
-    requires owns { Owns levels.old (g ∷ h ∷ []) }
-    requires first { ArePlaced parts.now (level_of levels.old g) }
-    requires second { ArePlaced parts.now (level_of levels.old h) }
-    ensures ok { IfOk result (λ r. Step levels.old levels.new (g ∷ h ∷ []) (r ∷ [])) }
-    ensures level { IfOk result (λ r. level_of levels.new r ≡ lay_all (union_below parts.now) (level_of levels.old g) (level_of levels.old h)) }
-    ensures err { OnErr result (Step levels.old levels.new (g ∷ h ∷ []) []) }
-{
-    let Some(key) = g else {
-        return Ok(h);
-    };
-    let Ok(top) = levels.open(key) else {
-        levels.free(h);
-        return Err(AllocError);
-    };
-    let Ok(after) = lay_items(levels, alloc, parts, top.right, h) else {
-        levels.free(top.left);
-        levels.free(top.item.child);
-        return Err(AllocError);
-    };
-    if levels.count(after) == u64::MAX {
-        levels.free(top.left);
-        levels.free(top.item.child);
-        levels.free(after);
-        return Err(AllocError);
-    }
-    let Ok(laid) = lay_item(levels, alloc, parts, top.item, after) else {
-        levels.free(top.left);
-        return Err(AllocError);
-    };
-    let whole = lay_items(levels, alloc, parts, top.left, laid)?;
-    Ok(whole)
-}
-
-// An item laid over a level.
-#[cycle(unite)]
-fn lay_item(
-    levels: &mut Levels,
-    alloc: Global,
-    parts: &[bool],
-    item: Item,
-    root: Owned,
-) -> Result<Owned, AllocError>
-    requires owns { Owns levels.old (item.child ∷ root ∷ []) }
-    requires alone { ArePlaced parts.now (one_item item.span (level_of levels.old item.child) no_items) }
-    requires level { ArePlaced parts.now (level_of levels.old root) }
-    ensures ok { IfOk result (λ r. Step levels.old levels.new (item.child ∷ root ∷ []) (r ∷ [])) }
-    ensures level { IfOk result (λ r. level_of levels.new r ≡ lay (union_below parts.now) item.span (level_of levels.old item.child) (level_of levels.old root)) }
-    ensures err { OnErr result (Step levels.old levels.new (item.child ∷ root ∷ []) []) }
-{
-    match item.child {
-        Some(_) => {
-            let whole = lay_from_top(levels, alloc, parts, item, root)?;
-            Ok(whole)
-        }
-        None => {
-            let whole = cover(levels, alloc, item.part, root, item.span)?;
-            Ok(whole)
-        }
-    }
-}
-
-// An item laid over a level, whatever its child: on one side of the topmost item where it lies apart from
-// that, else on both sides and over that.
-#[cycle(unite)]
-fn lay_from_top(
-    levels: &mut Levels,
-    alloc: Global,
-    parts: &[bool],
-    item: Item,
-    root: Owned,
-) -> Result<Owned, AllocError>
-    requires owns { Owns levels.old (item.child ∷ root ∷ []) }
-    requires alone { ArePlaced parts.now (one_item item.span (level_of levels.old item.child) no_items) }
-    requires level { ArePlaced parts.now (level_of levels.old root) }
-    ensures ok { IfOk result (λ r. Step levels.old levels.new (item.child ∷ root ∷ []) (r ∷ [])) }
-    ensures level { IfOk result (λ r. level_of levels.new r ≡ lay (union_below parts.now) item.span (level_of levels.old item.child) (level_of levels.old root)) }
-    ensures err { OnErr result (Step levels.old levels.new (item.child ∷ root ∷ []) []) }
-{
-    let Some(key) = root else {
-        let whole = join(levels, None, item, root)?;
-        return Ok(whole);
-    };
-    let Ok(top) = levels.open(key) else {
-        levels.free(item.child);
-        return Err(AllocError);
-    };
-    match place_beside(&item.span, &top.item.span) {
-        Beside::Right => {
-            let Ok(back) = lay_from_top(levels, alloc, parts, item, top.right) else {
-                levels.free(top.left);
-                levels.free(top.item.child);
-                return Err(AllocError);
-            };
-            let whole = join(levels, top.left, top.item, back)?;
-            Ok(whole)
-        }
-        Beside::Left => {
-            let Ok(front) = lay_from_top(levels, alloc, parts, item, top.left) else {
-                levels.free(top.right);
-                levels.free(top.item.child);
-                return Err(AllocError);
-            };
-            let whole = join(levels, front, top.item, top.right)?;
-            Ok(whole)
-        }
-        Beside::Neither => {
-            let whole = lay_at_top(levels, alloc, parts, item, top)?;
-            Ok(whole)
-        }
-    }
-}
-
-// An item laid over a level whose topmost item it reaches: what it has before that over the items to the
-// left, and the rest over that and the items to the right.
-#[cycle(unite)]
-fn lay_at_top(
-    levels: &mut Levels,
-    alloc: Global,
-    parts: &[bool],
-    item: Item,
-    top: Opened,
-) -> Result<Owned, AllocError>
-    requires owns { Owns levels.old (item.child ∷ top.item.child ∷ top.left ∷ top.right ∷ []) }
-    requires alone { ArePlaced parts.now (one_item item.span (level_of levels.old item.child) no_items) }
-    requires level { ArePlaced parts.now (between levels.old top.left top.item top.right) }
-    requires reaches { IsAtMost item.span.lo top.item.span.hi × IsAtMost top.item.span.lo item.span.hi }
-    ensures ok { IfOk result (λ r. Step levels.old levels.new (item.child ∷ top.item.child ∷ top.left ∷ top.right ∷ []) (r ∷ [])) }
-    ensures level { IfOk result (λ r. level_of levels.new r ≡ lay (union_below parts.now) item.span (level_of levels.old item.child) (between levels.old top.left top.item top.right)) }
-    ensures err { OnErr result (Step levels.old levels.new (item.child ∷ top.item.child ∷ top.left ∷ top.right ∷ []) []) }
-{
-    let Opened {
-        item: under,
-        left,
-        right,
-    } = top;
-    let Ok(front) = lay_before(levels, alloc, parts, &item, &under.span.lo, left) else {
-        levels.free(item.child);
-        levels.free(under.child);
-        levels.free(right);
-        return Err(AllocError);
-    };
-    match lay_on_and_behind(levels, alloc, parts, item, under, right) {
-        Ok(back) => {
-            let whole = glue(levels, front, back)?;
-            Ok(whole)
-        }
-        Err(error) => {
-            levels.free(front);
-            Err(error)
-        }
-    }
-}
-
-// What an item has before an end laid over a level. The child stays held; the level's handle is spent in
-// every case.
-#[cycle(unite)]
-fn lay_before(
-    levels: &mut Levels,
-    alloc: Global,
-    parts: &[bool],
-    item: &Item,
-    edge: &End,
-    rest: Owned,
-) -> Result<Owned, AllocError>
-    requires owns { Owns levels.old (item.now.child ∷ rest ∷ []) }
-    requires alone { ArePlaced parts.now (one_item item.now.span (level_of levels.old item.now.child) no_items) }
-    requires level { ArePlaced parts.now (level_of levels.old rest) }
-    ensures ok { IfOk result (λ r. Step levels.old levels.new (rest ∷ []) (r ∷ [])) }
-    ensures level { IfOk result (λ r. level_of levels.new r ≡ ahead (union_below parts.now) item.now.span (level_of levels.old item.now.child) edge.now (level_of levels.old rest)) }
-    ensures err { OnErr result (Step levels.old levels.new (rest ∷ []) []) }
-{
-    let Ordering::Less = compare_ends(&item.span.lo, edge) else {
-        return Ok(rest);
-    };
-    match shared_item(levels, alloc, item.part, &item.span.lo, edge, item.child) {
-        Ok(piece) => {
-            let whole = lay_from_top(levels, alloc, parts, piece, rest)?;
-            Ok(whole)
-        }
-        Err(error) => {
-            levels.free(rest);
-            Err(error)
-        }
-    }
-}
-
-// What an item has from where another begins, laid over that and the items behind it.
-#[cycle(unite)]
-fn lay_on_and_behind(
-    levels: &mut Levels,
-    alloc: Global,
-    parts: &[bool],
-    item: Item,
-    under: Item,
-    rest: Owned,
-) -> Result<Owned, AllocError>
-    requires owns { Owns levels.old (item.child ∷ under.child ∷ rest ∷ []) }
-    requires alone { ArePlaced parts.now (one_item item.span (level_of levels.old item.child) no_items) }
-    requires level { ArePlaced parts.now (one_item under.span (level_of levels.old under.child) (level_of levels.old rest)) }
-    ensures ok { IfOk result (λ r. Step levels.old levels.new (item.child ∷ under.child ∷ rest ∷ []) (r ∷ [])) }
-    ensures level { IfOk result (λ r. level_of levels.new r ≡ in_parts item.span under.span (level_of levels.old under.child) (union_below parts.now (level_of levels.old item.child) (level_of levels.old under.child)) (past (union_below parts.now) item.span (level_of levels.old item.child) under.span.hi (level_of levels.old rest))) }
-    ensures err { OnErr result (Step levels.old levels.new (item.child ∷ under.child ∷ rest ∷ []) []) }
-{
-    let Ok(behind) = lay_behind(levels, alloc, parts, &item, &under, rest) else {
-        levels.free(item.child);
-        levels.free(under.child);
-        return Err(AllocError);
-    };
-    let Ok(both) = unite_common(levels, alloc, parts, &item, &under) else {
-        levels.free(item.child);
-        levels.free(under.child);
-        levels.free(behind);
-        return Err(AllocError);
-    };
-    let whole = spread(levels, alloc, item, under, both, behind)?;
-    Ok(whole)
-}
-
-// What goes on below either of two items that overlap; of two that only touch nothing is said. Their
-// children stay held.
-#[cycle(unite)]
-fn unite_common(
-    levels: &mut Levels,
-    alloc: Global,
-    parts: &[bool],
-    item: &Item,
-    under: &Item,
-) -> Result<Owned, AllocError>
-    requires owns { Owns levels.old (item.now.child ∷ under.now.child ∷ []) }
-    requires first { ArePlacedBelow parts.now (level_of levels.old item.now.child) }
-    requires second { ArePlacedBelow parts.now (level_of levels.old under.now.child) }
+    at: u32,
+    lo: &End,
+    hi: &End,
+    child: Link,
+) -> Result<Owned, GraphFault>
+    requires sound { IsSound levels.old [] }
+    requires child { Lent levels.old [] child }
     ensures ok { IfOk result (λ r. Step levels.old levels.new [] (r ∷ [])) }
-    ensures level { IfOk result (λ r. IsBelow (later item.now.span.lo under.now.span.lo) (earlier item.now.span.hi under.now.span.hi) → level_of levels.new r ≡ union_below parts.now (level_of levels.old item.now.child) (level_of levels.old under.now.child)) }
+    ensures level { IfOk result (λ r. level_of levels.new r ≡ one_item (record { lo = lo.now; hi = hi.now }) (level_of levels.old child) no_items) }
+    ensures fault { IfErr result (λ fault. fault ≡ GraphFault.NoMemory) }
     ensures err { OnErr result (Step levels.old levels.new [] []) }
 {
-    if !have_common(&item.span, &under.span) {
-        return Ok(None);
-    }
-    let whole = unite_below(levels, alloc, parts, item.child, under.child)?;
+    let (Ok(lo), Ok(hi)) = (lo.copy(alloc), hi.copy(alloc)) else {
+        return Err(GraphFault::NoMemory);
+    };
+    let Ok(()) = levels.hold(child) else {
+        return Err(GraphFault::NoMemory);
+    };
+    let item = Item {
+        part: at,
+        span: Span { lo, hi },
+        child,
+    };
+    let Ok(whole) = levels.branch(item, None, None) else {
+        return Err(GraphFault::NoMemory);
+    };
     Ok(whole)
 }
 
-// What an item has behind another laid over the items after that. The children stay held; the level's
-// handle is spent in every case.
-#[cycle(unite)]
-fn lay_behind(
-    levels: &mut Levels,
-    alloc: Global,
-    parts: &[bool],
-    item: &Item,
-    under: &Item,
-    rest: Owned,
-) -> Result<Owned, AllocError>
-    requires owns { Owns levels.old (item.now.child ∷ under.now.child ∷ rest ∷ []) }
-    requires alone { ArePlaced parts.now (one_item item.now.span (level_of levels.old item.now.child) no_items) }
-    requires level { ArePlaced parts.now (one_item under.now.span (level_of levels.old under.now.child) (level_of levels.old rest)) }
-    ensures ok { IfOk result (λ r. Step levels.old levels.new (rest ∷ []) (r ∷ [])) }
-    ensures level { IfOk result (λ r. level_of levels.new r ≡ past (union_below parts.now) item.now.span (level_of levels.old item.now.child) under.now.span.hi (level_of levels.old rest)) }
-    ensures err { OnErr result (Step levels.old levels.new (rest ∷ []) []) }
-{
-    let Ordering::Greater = compare_ends(&item.span.hi, &under.span.hi) else {
-        return Ok(rest);
-    };
-    match shared_item(
-        levels,
-        alloc,
-        item.part,
-        &under.span.hi,
-        &item.span.hi,
-        item.child,
-    ) {
-        Ok(piece) => {
-            let whole = lay_from_top(levels, alloc, parts, piece, rest)?;
-            Ok(whole)
-        }
-        Err(error) => {
-            levels.free(rest);
-            Err(error)
-        }
-    }
-}
-
-// What goes on below either of two children, which stay held.
+// What goes on below either of two lent children of items. The list says of the parts from that of the items
+// on whether each may be NULL.
 #[cycle(unite)]
 fn unite_below(
     levels: &mut Levels,
     alloc: Global,
+    limit: u64,
     parts: &[bool],
     c: Link,
     d: Link,
-) -> Result<Owned, AllocError>
-    requires owns { Owns levels.old (c ∷ d ∷ []) }
+) -> Result<Owned, GraphFault>
+    requires sound { IsSound levels.old [] }
+    requires c { Lent levels.old [] c }
+    requires d { Lent levels.old [] d }
     requires first { ArePlacedBelow parts.now (level_of levels.old c) }
     requires second { ArePlacedBelow parts.now (level_of levels.old d) }
     ensures ok { IfOk result (λ r. Step levels.old levels.new [] (r ∷ [])) }
     ensures level { IfOk result (λ r. level_of levels.new r ≡ union_below parts.now (level_of levels.old c) (level_of levels.old d)) }
+    ensures over { IfErr result (λ fault. fault ≡ GraphFault.OverLimit → limit < 1 + level_size (union_below parts.now (level_of levels.old c) (level_of levels.old d))) }
     ensures err { OnErr result (Step levels.old levels.new [] []) }
 {
     let [_, below @ ..] = parts else {
@@ -359,15 +84,334 @@ fn unite_below(
     if levels.count(c) == 0 || levels.count(d) == 0 {
         return Ok(None);
     }
-    levels.hold(c)?;
-    let Ok(()) = levels.hold(d) else {
-        levels.free(c);
-        return Err(AllocError);
+    let whole = match unite(levels, alloc, limit, below, c, d) {
+        Ok(whole) => whole,
+        Err(fault) => return Err(fault),
     };
-    let whole = lay_items(levels, alloc, below, c, d)?;
     if is_all(levels, *nullable, whole) {
         levels.free(whole);
         return Ok(None);
     }
     Ok(whole)
+}
+
+// An item of the part `at` over what goes on below either of two lent children.
+#[cycle(unite)]
+fn item_over(
+    levels: &mut Levels,
+    alloc: Global,
+    limit: u64,
+    parts: &[bool],
+    at: u32,
+    span: &Span,
+    c: Link,
+    d: Link,
+) -> Result<Owned, GraphFault>
+    requires sound { IsSound levels.old [] }
+    requires c { Lent levels.old [] c }
+    requires d { Lent levels.old [] d }
+    requires first { ArePlacedBelow parts.now (level_of levels.old c) }
+    requires second { ArePlacedBelow parts.now (level_of levels.old d) }
+    ensures ok { IfOk result (λ r. Step levels.old levels.new [] (r ∷ [])) }
+    ensures level { IfOk result (λ r. level_of levels.new r ≡ one_item span.now (union_below parts.now (level_of levels.old c) (level_of levels.old d)) no_items) }
+    ensures over { IfErr result (λ fault. fault ≡ GraphFault.OverLimit → limit < 1 + level_size (union_below parts.now (level_of levels.old c) (level_of levels.old d))) }
+    ensures err { OnErr result (Step levels.old levels.new [] []) }
+{
+    let Ok(span) = span.copy(alloc) else {
+        return Err(GraphFault::NoMemory);
+    };
+    let child = match unite_below(levels, alloc, limit, parts, c, d) {
+        Ok(child) => child,
+        Err(fault) => return Err(fault),
+    };
+    let item = Item {
+        part: at,
+        span,
+        child,
+    };
+    let Ok(whole) = levels.branch(item, None, None) else {
+        return Err(GraphFault::NoMemory);
+    };
+    Ok(whole)
+}
+
+// An item between two ends over a lent child, which is of the part `at`, united with a lent level between these
+// ends: an item over either child for each item of the level, and the child alone in the gaps.
+#[cycle(unite)]
+fn fill(
+    levels: &mut Levels,
+    alloc: Global,
+    limit: u64,
+    parts: &[bool],
+    at: u32,
+    lo: &End,
+    hi: &End,
+    child: Link,
+    within: Link,
+) -> Result<Owned, GraphFault>
+    requires sound { IsSound levels.old [] }
+    requires child { Lent levels.old [] child }
+    requires within { Lent levels.old [] within }
+    requires fits { MayFill parts.now lo.now hi.now (level_of levels.old child) (level_of levels.old within) }
+    ensures ok { IfOk result (λ r. Step levels.old levels.new [] (r ∷ [])) }
+    ensures level { IfOk result (λ r. level_of levels.new r ≡ filled parts.now lo.now hi.now (level_of levels.old child) (level_of levels.old within)) }
+    ensures over { IfErr result (λ fault. fault ≡ GraphFault.OverLimit → limit < level_size (filled parts.now lo.now hi.now (level_of levels.old child) (level_of levels.old within))) }
+    ensures err { OnErr result (Step levels.old levels.new [] []) }
+{
+    let Some(seen) = levels.look(within) else {
+        if is_at_most(hi, lo) {
+            return Ok(None);
+        }
+        return match alone(levels, alloc, at, lo, hi, child) {
+            Ok(whole) => Ok(whole),
+            Err(fault) => Err(fault),
+        };
+    };
+    let under = seen.child;
+    let left = seen.left;
+    let right = seen.right;
+    let Ok(span) = seen.span.copy(alloc) else {
+        return Err(GraphFault::NoMemory);
+    };
+    let middle = match item_over(levels, alloc, limit, parts, at, &span, child, under) {
+        Ok(middle) => middle,
+        Err(fault) => return Err(fault),
+    };
+    let front = match fill(levels, alloc, limit, parts, at, lo, &span.lo, child, left) {
+        Ok(front) => front,
+        Err(fault) => {
+            levels.free(middle);
+            return Err(fault);
+        }
+    };
+    let back = match fill(levels, alloc, limit, parts, at, &span.hi, hi, child, right) {
+        Ok(back) => back,
+        Err(fault) => {
+            levels.free(front);
+            levels.free(middle);
+            return Err(fault);
+        }
+    };
+    match glue_three(levels, limit, front, middle, back) {
+        Ok(whole) => Ok(whole),
+        Err(fault) => Err(fault),
+    }
+}
+
+// An item of the part `at` over a lent child, united with what a lent level has within its span.
+#[cycle(unite)]
+fn over_item(
+    levels: &mut Levels,
+    alloc: Global,
+    limit: u64,
+    parts: &[bool],
+    at: u32,
+    span: &Span,
+    child: Link,
+    h: Link,
+) -> Result<Owned, GraphFault>
+    requires sound { IsSound levels.old [] }
+    requires child { Lent levels.old [] child }
+    requires h { Lent levels.old [] h }
+    requires alone { ArePlaced parts.now (one_item span.now (level_of levels.old child) no_items) }
+    requires level { ArePlaced parts.now (level_of levels.old h) }
+    ensures ok { IfOk result (λ r. Step levels.old levels.new [] (r ∷ [])) }
+    ensures level { IfOk result (λ r. level_of levels.new r ≡ either parts.now (one_item span.now (level_of levels.old child) no_items) (clipped span.now (level_of levels.old h))) }
+    ensures over { IfErr result (λ fault. fault ≡ GraphFault.OverLimit → limit < level_size (either parts.now (one_item span.now (level_of levels.old child) no_items) (clipped span.now (level_of levels.old h)))) }
+    ensures err { OnErr result (Step levels.old levels.new [] []) }
+{
+    let Some(_) = child else {
+        return match alone(levels, alloc, at, &span.lo, &span.hi, child) {
+            Ok(whole) => Ok(whole),
+            Err(fault) => Err(fault),
+        };
+    };
+    let Ok(within) = clip(levels, alloc, h, span) else {
+        return Err(GraphFault::NoMemory);
+    };
+    match fill(
+        levels, alloc, limit, parts, at, &span.lo, &span.hi, child, within,
+    ) {
+        Ok(whole) => {
+            levels.free(within);
+            Ok(whole)
+        }
+        Err(fault) => {
+            levels.free(within);
+            Err(fault)
+        }
+    }
+}
+
+// Either of a lent level and what another has before an end.
+#[cycle(unite)]
+fn unite_ahead(
+    levels: &mut Levels,
+    alloc: Global,
+    limit: u64,
+    parts: &[bool],
+    side: Link,
+    h: Link,
+    edge: &End,
+) -> Result<Owned, GraphFault>
+    requires sound { IsSound levels.old [] }
+    requires side { Lent levels.old [] side }
+    requires h { Lent levels.old [] h }
+    requires first { ArePlaced parts.now (level_of levels.old side) }
+    requires second { ArePlaced parts.now (level_of levels.old h) }
+    ensures ok { IfOk result (λ r. Step levels.old levels.new [] (r ∷ [])) }
+    ensures level { IfOk result (λ r. level_of levels.new r ≡ either parts.now (level_of levels.old side) (before edge.now (level_of levels.old h))) }
+    ensures over { IfErr result (λ fault. fault ≡ GraphFault.OverLimit → limit < level_size (either parts.now (level_of levels.old side) (before edge.now (level_of levels.old h)))) }
+    ensures err { OnErr result (Step levels.old levels.new [] []) }
+{
+    let Ok(cut) = ahead(levels, alloc, h, edge) else {
+        return Err(GraphFault::NoMemory);
+    };
+    match unite(levels, alloc, limit, parts, side, cut) {
+        Ok(whole) => {
+            levels.free(cut);
+            Ok(whole)
+        }
+        Err(fault) => {
+            levels.free(cut);
+            Err(fault)
+        }
+    }
+}
+
+// Either of a lent level and what another has behind an end.
+#[cycle(unite)]
+fn unite_behind(
+    levels: &mut Levels,
+    alloc: Global,
+    limit: u64,
+    parts: &[bool],
+    side: Link,
+    h: Link,
+    edge: &End,
+) -> Result<Owned, GraphFault>
+    requires sound { IsSound levels.old [] }
+    requires side { Lent levels.old [] side }
+    requires h { Lent levels.old [] h }
+    requires first { ArePlaced parts.now (level_of levels.old side) }
+    requires second { ArePlaced parts.now (level_of levels.old h) }
+    ensures ok { IfOk result (λ r. Step levels.old levels.new [] (r ∷ [])) }
+    ensures level { IfOk result (λ r. level_of levels.new r ≡ either parts.now (level_of levels.old side) (after edge.now (level_of levels.old h))) }
+    ensures over { IfErr result (λ fault. fault ≡ GraphFault.OverLimit → limit < level_size (either parts.now (level_of levels.old side) (after edge.now (level_of levels.old h)))) }
+    ensures err { OnErr result (Step levels.old levels.new [] []) }
+{
+    let Ok(cut) = behind(levels, alloc, h, edge) else {
+        return Err(GraphFault::NoMemory);
+    };
+    match unite(levels, alloc, limit, parts, side, cut) {
+        Ok(whole) => {
+            levels.free(cut);
+            Ok(whole)
+        }
+        Err(fault) => {
+            levels.free(cut);
+            Err(fault)
+        }
+    }
+}
+
+// Either of two lent levels at the topmost item of the first: what both have before it, it and what the second
+// has within it, and what both have behind it.
+#[cycle(unite)]
+fn walk(
+    levels: &mut Levels,
+    alloc: Global,
+    limit: u64,
+    parts: &[bool],
+    g: Link,
+    h: Link,
+) -> Result<Owned, GraphFault>
+    requires sound { IsSound levels.old [] }
+    requires g { Lent levels.old [] g }
+    requires h { Lent levels.old [] h }
+    requires first { ArePlaced parts.now (level_of levels.old g) }
+    requires second { ArePlaced parts.now (level_of levels.old h) }
+    ensures ok { IfOk result (λ r. Step levels.old levels.new [] (r ∷ [])) }
+    ensures level { IfOk result (λ r. level_of levels.new r ≡ either parts.now (level_of levels.old g) (level_of levels.old h)) }
+    ensures small { IfOk result (λ r. level_size (level_of levels.new r) ≤ limit) }
+    ensures over { IfErr result (λ fault. fault ≡ GraphFault.OverLimit → limit < level_size (either parts.now (level_of levels.old g) (level_of levels.old h))) }
+    ensures err { OnErr result (Step levels.old levels.new [] []) }
+{
+    let Some(seen) = levels.look(g) else {
+        return match hold_within(levels, limit, h) {
+            Ok(whole) => Ok(whole),
+            Err(fault) => Err(fault),
+        };
+    };
+    let at = seen.part;
+    let child = seen.child;
+    let left = seen.left;
+    let right = seen.right;
+    let Ok(span) = seen.span.copy(alloc) else {
+        return Err(GraphFault::NoMemory);
+    };
+    let middle = match over_item(levels, alloc, limit, parts, at, &span, child, h) {
+        Ok(middle) => middle,
+        Err(fault) => return Err(fault),
+    };
+    let front = match unite_ahead(levels, alloc, limit, parts, left, h, &span.lo) {
+        Ok(front) => front,
+        Err(fault) => {
+            levels.free(middle);
+            return Err(fault);
+        }
+    };
+    let back = match unite_behind(levels, alloc, limit, parts, right, h, &span.hi) {
+        Ok(back) => back,
+        Err(fault) => {
+            levels.free(front);
+            levels.free(middle);
+            return Err(fault);
+        }
+    };
+    match glue_three(levels, limit, front, middle, back) {
+        Ok(whole) => Ok(whole),
+        Err(fault) => Err(fault),
+    }
+}
+
+/// Either of two lent levels: of a level and itself the same level, else at the topmost item of the one that has
+/// fewer items. The list says of the parts from that of the levels on whether each may be NULL. OverLimit comes
+/// where it has more items than the limit, counted at each place.
+#[cycle(unite)]
+pub fn unite(
+    levels: &mut Levels,
+    alloc: Global,
+    limit: u64,
+    parts: &[bool],
+    g: Link,
+    h: Link,
+) -> Result<Owned, GraphFault>
+    requires sound { IsSound levels.old [] }
+    requires g { Lent levels.old [] g }
+    requires h { Lent levels.old [] h }
+    requires first { ArePlaced parts.now (level_of levels.old g) }
+    requires second { ArePlaced parts.now (level_of levels.old h) }
+    ensures ok { IfOk result (λ r. Step levels.old levels.new [] (r ∷ [])) }
+    ensures level { IfOk result (λ r. level_of levels.new r ≡ either parts.now (level_of levels.old g) (level_of levels.old h)) }
+    ensures small { IfOk result (λ r. level_size (level_of levels.new r) ≤ limit) }
+    ensures over { IfErr result (λ fault. fault ≡ GraphFault.OverLimit → limit < level_size (either parts.now (level_of levels.old g) (level_of levels.old h))) }
+    ensures err { OnErr result (Step levels.old levels.new [] []) }
+{
+    if is_same_link(g, h) {
+        return match hold_within(levels, limit, g) {
+            Ok(whole) => Ok(whole),
+            Err(fault) => Err(fault),
+        };
+    }
+    if levels.count(h) < levels.count(g) {
+        return match walk(levels, alloc, limit, parts, h, g) {
+            Ok(whole) => Ok(whole),
+            Err(fault) => Err(fault),
+        };
+    }
+    match walk(levels, alloc, limit, parts, g, h) {
+        Ok(whole) => Ok(whole),
+        Err(fault) => Err(fault),
+    }
 }

@@ -37,11 +37,11 @@ pub record Parted (n : Bool) (ns : List Bool) (l : Level) (s : Span) (c r : Leve
   pub on : ArePlaced (n ∷ ns) (item s c r)
   pub ends : EndsBy s.lo l
 
-ends_later : (e f : End) (l : Level) → IsAtMost e f → EndsBy e l → EndsBy f l
+pub ends_later : (e f : End) (l : Level) → IsAtMost e f → EndsBy e l → EndsBy f l
 ends_later e f end low by = tt
 ends_later e f (item s c rest) low by = (at_most-trans s.hi e f by.0 low, ends_later e f rest low by.1)
 
-begins_first : (e : End) (a : Level) (s : Span) (c r : Level) → BeginsFrom e (join_level a (item s c r)) → BeginsFrom e a
+pub begins_first : (e : End) (a : Level) (s : Span) (c r : Level) → BeginsFrom e (join_level a (item s c r)) → BeginsFrom e a
 begins_first e end s c r begins = tt
 begins_first e (item t d rest) s c r begins = begins
 
@@ -50,7 +50,7 @@ differs_first t d end s c r differs = tt
 differs_first t d (item u e rest) s c r differs = differs
 
 -- the item that stands behind others begins from where they do
-begins_behind : (n : Bool) (ns : List Bool) (e : End) (a : Level) (s : Span) (c r : Level) → ArePlaced (n ∷ ns) (join_level a (item s c r)) → BeginsFrom e (join_level a (item s c r)) → IsAtMost e s.lo
+pub begins_behind : (n : Bool) (ns : List Bool) (e : End) (a : Level) (s : Span) (c r : Level) → ArePlaced (n ∷ ns) (join_level a (item s c r)) → BeginsFrom e (join_level a (item s c r)) → IsAtMost e s.lo
 begins_behind n ns e end s c r placed begins = begins
 begins_behind n ns e (item t d rest) s c r placed begins =
     at_most-trans e t.hi s.lo (at_most-trans e t.lo t.hi begins (below-at_most t.lo t.hi placed.0.span)) (begins_behind n ns t.hi rest s c r placed.3 placed.0.rises)

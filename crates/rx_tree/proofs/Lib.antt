@@ -11,3 +11,7 @@ pub mod Joining
 mod Rows
 pub mod Unique
 pub mod Counted
+pub mod Order
+pub mod Sides
+pub mod Unions
+pub mod Pieces

@@ -6,3 +6,6 @@ pub mod Weld
 pub mod Meet
 pub mod Union
 pub mod Join
+pub mod Cuts
+pub mod Bare
+pub mod Fill

@@ -1,8 +1,7 @@
-use Rattle.std.proofs.Common.{arith, ap, ◌∷◌, [], Some}
-use Rattle.rx_tree.specs.Tree.{level_size}
+use Rattle.std.proofs.Common.{arith, ◌∷◌, [], Some}
 use Rattle.rx_level.proofs.Steps.{keeps_root}
 use Rattle.rx_level.proofs.Turning.{kept_root}
-use Rattle.rx_and.proofs.Hanging.{number_stays, number_one}
+use Rattle.rx_and.proofs.HungLevels.{number_stays, number_one}
 use Rattle.rx_and.proofs.choosing.keep_one.Goals as goal
 
 pub returns-clause-level : goal.returns-clause-level

@@ -3,7 +3,7 @@ use Rattle.rx_tree.specs.Tree.{level_size}
 use Rattle.rx_level.specs.Step.{Owns, Step}
 use Rattle.rx_and.proofs.Fellows.{met_itself}
 use Rattle.rx_weld.proofs.Welded.{owned_lent}
-use Rattle.rx_and.proofs.Hanging.{number_stays, freed_tree}
+use Rattle.rx_and.proofs.HungLevels.{number_stays, freed_tree}
 use Rattle.rx_and.proofs.choosing.level_and.Goals as goal
 
 one : (g h : ℕ) → g ≡ h → h ≡ g
@@ -48,3 +48,22 @@ returns-in-Err-clause-err c =
 
 pub returns-in-Ok-meet_levels-clause-same : goal.returns-in-Ok-meet_levels-clause-same
 returns-in-Ok-meet_levels-clause-same c e = absurd (omega (arith, e, c.if-g-h.false))
+
+pub returns-in-Ok-meet_levels-clause-live_turned : goal.returns-in-Ok-meet_levels-clause-live_turned
+returns-in-Ok-meet_levels-clause-live_turned c before n number = omega (arith, c.in-Ok-meet_levels.ensures.live_turned before n number, c.free.ensures.live, c.free-in-Ok-meet_levels.ensures.live)
+
+pub returns-in-Ok-meet_levels-clause-by_bits : goal.returns-in-Ok-meet_levels-clause-by_bits
+returns-in-Ok-meet_levels-clause-by_bits c bare bits few = omega (arith, c.in-Ok-meet_levels.ensures.by_bits bare bits few, c.free.ensures.live, c.free-in-Ok-meet_levels.ensures.live)
+
+pub returns-in-Ok-meet_levels-clause-by_bits_turned : goal.returns-in-Ok-meet_levels-clause-by_bits_turned
+returns-in-Ok-meet_levels-clause-by_bits_turned c bare bits few = omega (arith, c.in-Ok-meet_levels.ensures.by_bits_turned bare bits few, c.free.ensures.live, c.free-in-Ok-meet_levels.ensures.live)
+
+pub returns-in-Ok-meet_levels-clause-items_turned : goal.returns-in-Ok-meet_levels-clause-items_turned
+returns-in-Ok-meet_levels-clause-items_turned c before n m k first second third =
+    c.in-Ok-meet_levels.ensures.items_turned before n m k first second
+    (number_stays c.meet_levels.new.levels c.free-in-Ok-meet_levels.new.self c.in-Ok-meet_levels.whole
+    (freed_tree c.args.levels.now c.meet_levels.new.levels c.free.new.self c.free-in-Ok-meet_levels.new.self c.args.g c.args.h c.in-Ok-meet_levels.whole c.requires.owns c.in-Ok-meet_levels.ensures.ok c.free.ensures.step c.free-in-Ok-meet_levels.ensures.step)
+    c.sound.ensures.stands c.sound-in-Ok-meet_levels.ensures.stands k third)
+
+pub returns-in-Ok-clause-items_turned : goal.returns-in-Ok-clause-items_turned
+returns-in-Ok-clause-items_turned c before n m k first second third = omega (arith, c.in-Ok.ensures.items m k second third)

@@ -6,7 +6,7 @@ use Rattle.rx_graph.specs.declared.handles.Root.TheVariants.{Items}
 use Rattle.rx_graph.specs.Graph.{link_of}
 use Rattle.rx_graph.proofs.GraphSteps.{owns_from}
 use Rattle.rx_graph.proofs.Back.{back_with, back_none, back_spent, few_left, times_first, times_second}
-use Rattle.rx_and.proofs.Hanging.{level_canonical, few_made, few_reached, number_moved}
+use Rattle.rx_and.proofs.HungLevels.{level_canonical, few_cut, few_made, few_reached, number_moved}
 use Rattle.rx_and.proofs.MeetRoots.{some_tree, some_canonical}
 use Rattle.rx_and.proofs.intersections.items_and.Goals as goal
 
@@ -96,3 +96,68 @@ returns-in-Ok-Some-clause-same c e = omega (arith, c.in-Ok-Some.ensures.same e, 
 pub returns-in-Ok-None-clause-same : goal.returns-in-Ok-None-clause-same
 returns-in-Ok-None-clause-same c e =
     omega (arith, c.in-Ok-None.ensures.same e, ap slab_len c.take_levels-levels.ensures.levels, ap slab_len c.nothing.ensures.store, ap (λ x. slab_len x.store) c.put_levels-in-Ok-None.ensures)
+
+pub returns-in-Ok-Some-clause-live_turned : goal.returns-in-Ok-Some-clause-live_turned
+returns-in-Ok-Some-clause-live_turned c before n number =
+    omega (
+      arith,
+      few_made c.args.arena.now c.parts.result.now c.take_levels-levels.result c.args.h c.args.g (slab_len c.level_and.new.levels) (c.parts.ensures.items ∙ ap (λ x. x.nullable) c.take_levels-levels.ensures.rest) c.take_levels-levels.ensures.levels c.in-Ok-Some.ensures.live_turned before n number,
+      ap (λ x. slab_len x.store) c.put_levels.ensures,
+    )
+
+pub returns-in-Ok-Some-clause-items_turned : goal.returns-in-Ok-Some-clause-items_turned
+returns-in-Ok-Some-clause-items_turned c before n m k first second third =
+    few_reached c.args.arena.now c.parts.result.now c.take_levels-levels.result c.args.h c.args.g k (c.parts.ensures.items ∙ ap (λ x. x.nullable) c.take_levels-levels.ensures.rest) c.take_levels-levels.ensures.levels
+    (λ earlier i j one other. c.in-Ok-Some.ensures.items_turned earlier i j k one other
+    (number_moved c.put_levels.new.self.store c.level_and.new.levels (link_of c.of.result) c.in-Ok-Some.field-0 (ap (λ x. x.store) c.put_levels.ensures) (ap link_of c.of.ensures ∙ sym c.in-Ok-Some.field-0-is) k third))
+    before n m first second
+
+pub returns-in-Ok-Some-clause-by_bits : goal.returns-in-Ok-Some-clause-by_bits
+returns-in-Ok-Some-clause-by_bits c bare bits few =
+    omega (
+      arith,
+      few_cut c.args.arena.now c.take_levels-levels.result c.args.g c.args.h (slab_len c.level_and.new.levels) c.take_levels-levels.ensures.levels c.in-Ok-Some.ensures.by_bits bare bits few,
+      ap (λ x. slab_len x.store) c.put_levels.ensures,
+    )
+
+pub returns-in-Ok-Some-clause-by_bits_turned : goal.returns-in-Ok-Some-clause-by_bits_turned
+returns-in-Ok-Some-clause-by_bits_turned c bare bits few =
+    omega (
+      arith,
+      few_cut c.args.arena.now c.take_levels-levels.result c.args.h c.args.g (slab_len c.level_and.new.levels) c.take_levels-levels.ensures.levels c.in-Ok-Some.ensures.by_bits_turned bare bits few,
+      ap (λ x. slab_len x.store) c.put_levels.ensures,
+    )
+
+pub returns-in-Ok-None-clause-live_turned : goal.returns-in-Ok-None-clause-live_turned
+returns-in-Ok-None-clause-live_turned c before n number =
+    omega (
+      arith,
+      few_made c.args.arena.now c.parts.result.now c.take_levels-levels.result c.args.h c.args.g (slab_len c.level_and.new.levels) (c.parts.ensures.items ∙ ap (λ x. x.nullable) c.take_levels-levels.ensures.rest) c.take_levels-levels.ensures.levels c.in-Ok-None.ensures.live_turned before n number,
+      ap slab_len c.nothing.ensures.store,
+      ap (λ x. slab_len x.store) c.put_levels-in-Ok-None.ensures,
+    )
+
+pub returns-in-Ok-None-clause-items_turned : goal.returns-in-Ok-None-clause-items_turned
+returns-in-Ok-None-clause-items_turned c before n m k first second third =
+    few_reached c.args.arena.now c.parts.result.now c.take_levels-levels.result c.args.h c.args.g k (c.parts.ensures.items ∙ ap (λ x. x.nullable) c.take_levels-levels.ensures.rest) c.take_levels-levels.ensures.levels
+    (λ earlier i j one other. c.in-Ok-None.ensures.items_turned earlier i j k one other
+    (number_moved c.nothing.new.self.store c.level_and.new.levels (link_of c.nothing.result) c.in-Ok-None.field-0 (c.nothing.ensures.store ∙ ap (λ x. x.store) c.put_levels-in-Ok-None.ensures) (ap link_of c.nothing.ensures.root ∙ sym c.in-Ok-None.field-0-is) k third))
+    before n m first second
+
+pub returns-in-Ok-None-clause-by_bits : goal.returns-in-Ok-None-clause-by_bits
+returns-in-Ok-None-clause-by_bits c bare bits few =
+    omega (
+      arith,
+      few_cut c.args.arena.now c.take_levels-levels.result c.args.g c.args.h (slab_len c.level_and.new.levels) c.take_levels-levels.ensures.levels c.in-Ok-None.ensures.by_bits bare bits few,
+      ap slab_len c.nothing.ensures.store,
+      ap (λ x. slab_len x.store) c.put_levels-in-Ok-None.ensures,
+    )
+
+pub returns-in-Ok-None-clause-by_bits_turned : goal.returns-in-Ok-None-clause-by_bits_turned
+returns-in-Ok-None-clause-by_bits_turned c bare bits few =
+    omega (
+      arith,
+      few_cut c.args.arena.now c.take_levels-levels.result c.args.h c.args.g (slab_len c.level_and.new.levels) c.take_levels-levels.ensures.levels c.in-Ok-None.ensures.by_bits_turned bare bits few,
+      ap slab_len c.nothing.ensures.store,
+      ap (λ x. slab_len x.store) c.put_levels-in-Ok-None.ensures,
+    )

@@ -1,5 +1,5 @@
 use Rattle.std.proofs.Common.{arith}
-use Rattle.rx_and.proofs.Meets.{stays}
+use Rattle.rx_cut.proofs.Staying.{stays}
 use Rattle.rx_and.proofs.limiting.hold_within.Goals as goal
 
 pub returns-clause-level : goal.returns-clause-level

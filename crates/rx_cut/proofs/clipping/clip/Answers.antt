@@ -1,6 +1,6 @@
 use Rattle.std.proofs.Common.{arith}
 use Rattle.rx_level.specs.Step.{tall_of}
-use Rattle.rx_or.proofs.Opened.{low_bits}
+use Rattle.rx_level.proofs.Bits.{low_bits}
 use Rattle.rx_cut.proofs.clipping.clip.Goals as goal
 
 pub returns-in-Ok-clause-by_bits : goal.returns-in-Ok-clause-by_bits

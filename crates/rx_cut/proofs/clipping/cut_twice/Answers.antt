@@ -1,8 +1,8 @@
 use Rattle.std.proofs.Common.{◌∷◌, [], arith, sym, subst}
 use Rattle.rx_level.specs.Step.{level_of}
 use Rattle.rx_weld.proofs.Welded.{owned_lent}
-use Rattle.rx_or.specs.Cover.{AreInOrder}
-use Rattle.rx_cut.proofs.Before.{before_order}
+use Rattle.rx_tree.specs.Cuts.{AreInOrder}
+use Rattle.rx_tree.proofs.Sides.{before_order}
 use Rattle.rx_cut.proofs.clipping.cut_twice.Goals as goal
 
 pub behind-requires-clause-root : goal.behind-requires-clause-root

@@ -1,6 +1,6 @@
 use Rattle.std.proofs.Common.{arith}
 use Rattle.rx_level.specs.Step.{tall_of}
-use Rattle.rx_or.proofs.Opened.{low_bits}
+use Rattle.rx_level.proofs.Bits.{low_bits}
 use Rattle.rx_or.proofs.covering.cover.Goals as goal
 
 pub returns-clause-by_bits : goal.returns-clause-by_bits

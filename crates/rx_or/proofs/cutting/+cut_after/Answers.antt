@@ -2,7 +2,7 @@ use Rattle.std.proofs.Common.{◌≤◌, ℕ, ◌+◌, ◌-◌, ◌*◌, [], ◌
 use Rattle.slab.specs.Slab.{slab_len}
 use Rattle.rx_level.specs.Tree.{IsHeight}
 use Rattle.rx_level.specs.Step.{tall_of}
-use Rattle.rx_or.specs.Cover.{AreInOrder}
+use Rattle.rx_tree.specs.Cuts.{AreInOrder}
 use Rattle.rx_or.proofs.Opened.{opened, owns_side, owns_twice, lower_left, lower_right, stays_open, stays_twice, order_left, order_right, apart_level_after, beyond_level_after, joined_level_after, across_level_after, joined_height, joined_live, joined_made, turned_height, turned_live}
 use Rattle.rx_level.proofs.Sinking.{turn_height}
 use Rattle.rx_or.proofs.cutting.+cut_after.Goals as goal

@@ -2,7 +2,7 @@ use Rattle.std.proofs.Common.{◌≤◌, ℕ, ◌+◌, ◌-◌, ◌*◌, [], ◌
 use Rattle.slab.specs.Slab.{slab_len}
 use Rattle.rx_level.specs.Tree.{IsHeight}
 use Rattle.rx_level.specs.Step.{tall_of}
-use Rattle.rx_or.specs.Cover.{AreInOrder}
+use Rattle.rx_tree.specs.Cuts.{AreInOrder}
 use Rattle.rx_or.proofs.Opened.{opened, owns_side, owns_twice, lower_left, lower_right, stays_open, stays_twice, order_left, order_right, apart_level_before, beyond_level_before, joined_level_before, across_level_before, joined_height, joined_live, joined_made}
 use Rattle.rx_or.proofs.cutting.+cut_before.Goals as goal
 

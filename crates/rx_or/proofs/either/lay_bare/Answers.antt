@@ -1,10 +1,12 @@
 use Rattle.std.proofs.Common.{◌≡◌, ◌∙◌, true, arith, ap, sym, subst}
 use Rattle.rx_tree.specs.Join.{length_of}
 use Rattle.rx_level.specs.Step.{level_of, between}
-use Rattle.rx_or.specs.Cover.{AreInOrder, covered}
-use Rattle.rx_or.specs.Below.{is_bare, covered_by}
+use Rattle.rx_tree.specs.Cuts.{AreInOrder}
+use Rattle.rx_tree.specs.Bare.{is_bare}
+use Rattle.rx_or.specs.Cover.{covered}
+use Rattle.rx_or.specs.Below.{covered_by}
 use Rattle.rx_or.proofs.Laid.{bare_opened}
-use Rattle.rx_or.proofs.Following.{beside_bare}
+use Rattle.rx_or.proofs.Neighbours.{beside_bare}
 use Rattle.rx_or.proofs.either.lay_bare.Goals as goal
 
 pub cover-requires-clause-order : goal.cover-requires-clause-order

@@ -1,158 +1,352 @@
-use Rattle.std.proofs.Common.{◌≡◌, ◌-◌, ◌∙◌, Bool, false, List, [], ◌∷◌, length, get_or, take, drop, arith, refl, ap}
-use Rattle.rx_level.specs.Step.{level_of}
-use Rattle.rx_or.proofs.Laid.{parts_order, placed_left, cover_lay, below_first, below_second, first_and_rest, first_and_drop, all_below, some_below}
-use Rattle.rx_or.proofs.Opened.{none_level}
-use Rattle.rx_or.proofs.Following.{taken, taken_right, behind, laid_on, laid_level, kept_below, onto_level, are_held, united, taken_aside, aside_left, aside_right, right_level, left_level, over_level, piece_made, fronted, front_apart, across_level}
+use Rattle.std.proofs.Common.{◌≡◌, ◌-◌, ◌∙◌, Bool, false, List, ◌∷◌, length, get_or, take, drop, arith, ap, ap₂, sym, subst}
+use Rattle.rx_tree.specs.Tree.{Level, level_size}
 use Rattle.rx_tree.specs.Join.{length_of}
-use Rattle.rx_weld.proofs.Welded.{owned_lent}
+use Rattle.rx_tree.specs.Canonical.{ArePlaced}
+use Rattle.rx_tree.specs.Cuts.{before, after}
+use Rattle.rx_tree.specs.Fill.{MayFill, filled}
+use Rattle.rx_tree.specs.Union.{either}
+use Rattle.rx_tree.proofs.Pieces.{before_size, after_size}
+use Rattle.rx_tree.proofs.Unions.{either_turn}
+use Rattle.rx_level.specs.Step.{level_of}
+use Rattle.rx_cut.specs.Clip.{clipped}
+use Rattle.rx_cut.proofs.Staying.{stays, stays_two}
+use Rattle.rx_limit.proofs.Glues.{over_later}
 use Rattle.rx_or.specs.Below.{union_below}
+use Rattle.rx_or.proofs.Opened.{none_level}
+use Rattle.rx_or.proofs.Laid.{parts_order, below_first, below_second, below_some, first_and_rest, first_and_drop, all_below, some_below}
+use Rattle.rx_or.proofs.United.{smaller, apart, parts_within, ahead_later, behind_later, placed_later, united, fills, fills_within, may_later, filled_later, filled_up, bare_alone, item_fits, item_filled, ahead_placed, behind_placed, clipped_size, below_size, none_first, same_either, given_lent, cut_either, cut_filled}
 use Rattle.rx_or.proofs.uniting.+unite.Goals.{unite_below-then-count-eq0-via-then-count-eq0, unite_below-then-count-eq0-via-else-count-eq0+then-count-eq0-2}
 use Rattle.rx_or.proofs.uniting.+unite.Goals as goal
 
-pub lay_item-cover-requires-clause-order : goal.lay_item-cover-requires-clause-order
-lay_item-cover-requires-clause-order t c = parts_order c.args.parts.now (level_of c.args.levels.now c.args.root) c.requires.level
+pub fill-item_over-requires : goal.fill-item_over-requires
+fill-item_over-requires t c =
+    let o = c.in-Some.seen in
+    let a = c.args.levels.now in
+    let less = smaller _ _ _ _ o.span.now c.in-Some.ensures.level in
+    let q = fills c.args.parts.now c.args.lo.now c.args.hi.now (level_of a c.args.child) (level_of a c.args.within) (level_of a o.left) o.span.now c.in-Ok-copy.span (level_of a o.child) (level_of a o.right) c.in-Some.ensures.level c.in-Ok-copy.ensures c.requires.fits in
+    (omega (arith, less.child, c.decreases), (c.requires.sound, (c.requires.child, (c.in-Some.ensures.child, (q.first, q.second)))))
 
-pub lay_item-returns-in_ok-whole-in-None-clause-level : goal.lay_item-returns-in_ok-whole-in-None-clause-level
-lay_item-returns-in_ok-whole-in-None-clause-level t c =
-    c.in_ok-whole-in-None.ensures.level
-    ∙ cover_lay c.args.parts.now c.args.item.span (level_of c.args.levels.now c.args.item.child) (level_of c.args.levels.now c.args.root) (none_level c.args.levels.now c.args.item.child c.in-None.is) c.requires.alone c.requires.level
+pub fill-returns-in-Err-item_over-clause-over : goal.fill-returns-in-Err-item_over-clause-over
+fill-returns-in-Err-item_over-clause-over t c e =
+    let o = c.in-Some.seen in
+    let a = c.args.levels.now in
+    let q = fills c.args.parts.now c.args.lo.now c.args.hi.now (level_of a c.args.child) (level_of a c.args.within) (level_of a o.left) o.span.now c.in-Ok-copy.span (level_of a o.child) (level_of a o.right) c.in-Some.ensures.level c.in-Ok-copy.ensures c.requires.fits in
+    let w = fills_within c.args.parts.now c.args.lo.now c.args.hi.now (level_of a c.args.child) (level_of a o.left) c.in-Ok-copy.span (level_of a o.child) (level_of a o.right) (level_of a c.args.within) q in
+    omega (arith, w.second, c.in-Err-item_over.ensures.over e)
 
-pub lay_items-lay_items-requires : goal.lay_items-lay_items-requires
-lay_items-lay_items-requires t c =
-    let x = taken c.args.levels.now c.open.new.self c.args.parts.now c.args.g c.args.h c.in-Ok.top.left c.in-Ok.top.right c.in-Ok.top.item c.in-Some.key c.in-Some.is c.requires.owns c.in-Ok.ensures.ok c.in-Ok.ensures.level c.requires.first c.requires.second in
-    (omega (arith, x.shorter_right, c.decreases), (record { sound = x.sound; owned = λ m. omega (arith, x.held m) }, (taken_right c.args.levels.now c.open.new.self c.args.parts.now c.args.g c.args.h c.in-Ok.top.left c.in-Ok.top.right c.in-Ok.top.item x, x.second)))
+pub fill-fill-requires : goal.fill-fill-requires
+fill-fill-requires t c =
+    let o = c.in-Some.seen in
+    let a = c.args.levels.now in
+    let one = c.in-Ok-item_over.ensures.ok in
+    let less = smaller _ _ _ _ o.span.now c.in-Some.ensures.level in
+    let q = fills c.args.parts.now c.args.lo.now c.args.hi.now (level_of a c.args.child) (level_of a c.args.within) (level_of a o.left) o.span.now c.in-Ok-copy.span (level_of a o.child) (level_of a o.right) c.in-Some.ensures.level c.in-Ok-copy.ensures c.requires.fits in
+    let l1 = stays a _ _ c.requires.sound one o.left c.in-Some.ensures.left in
+    let c1 = stays a _ _ c.requires.sound one c.args.child c.requires.child in
+    (omega (arith, less.left, l1.size_same, c1.size_same, c.decreases), (one.sound, (c1.lent, (l1.lent, may_later a _ c.args.parts.now c.args.lo.now c.in-Ok-copy.span.lo c.args.child o.left c1 l1 q.front))))
 
-pub lay_items-lay_item-requires : goal.lay_items-lay_item-requires
-lay_items-lay_item-requires t c =
-    let x = taken c.args.levels.now c.open.new.self c.args.parts.now c.args.g c.args.h c.in-Ok.top.left c.in-Ok.top.right c.in-Ok.top.item c.in-Some.key c.in-Some.is c.requires.owns c.in-Ok.ensures.ok c.in-Ok.ensures.level c.requires.first c.requires.second in
-    let k = behind c.args.levels.now c.open.new.self c.lay_items.new.levels c.args.parts.now c.args.g c.args.h c.in-Ok.top.left c.in-Ok.top.right c.in-Ok-lay_items.after c.in-Ok.top.item x c.in-Ok-lay_items.ensures.ok c.in-Ok-lay_items.ensures.level in
-    (omega (arith, c.if-count.false, c.count.ensures, c.decreases), (record { sound = k.sound; owned = λ m. omega (arith, k.held m) }, (k.alone, k.placed)))
+pub fill-returns-in-Err-fill-clause-over : goal.fill-returns-in-Err-fill-clause-over
+fill-returns-in-Err-fill-clause-over t c e =
+    let o = c.in-Some.seen in
+    let a = c.args.levels.now in
+    let one = c.in-Ok-item_over.ensures.ok in
+    let q = fills c.args.parts.now c.args.lo.now c.args.hi.now (level_of a c.args.child) (level_of a c.args.within) (level_of a o.left) o.span.now c.in-Ok-copy.span (level_of a o.child) (level_of a o.right) c.in-Some.ensures.level c.in-Ok-copy.ensures c.requires.fits in
+    let w = fills_within c.args.parts.now c.args.lo.now c.args.hi.now (level_of a c.args.child) (level_of a o.left) c.in-Ok-copy.span (level_of a o.child) (level_of a o.right) (level_of a c.args.within) q in
+    let l1 = stays a _ _ c.requires.sound one o.left c.in-Some.ensures.left in
+    let c1 = stays a _ _ c.requires.sound one c.args.child c.requires.child in
+    over_later c.args.limit _ _ _ (c.in-Err-fill.ensures.over e) (filled_later a _ c.args.parts.now c.args.lo.now c.in-Ok-copy.span.lo c.args.child o.left c1 l1) w.first
 
-pub lay_items-lay_items-requires-2 : goal.lay_items-lay_items-requires-2
-lay_items-lay_items-requires-2 t c =
-    let x = taken c.args.levels.now c.open.new.self c.args.parts.now c.args.g c.args.h c.in-Ok.top.left c.in-Ok.top.right c.in-Ok.top.item c.in-Some.key c.in-Some.is c.requires.owns c.in-Ok.ensures.ok c.in-Ok.ensures.level c.requires.first c.requires.second in
-    let k = behind c.args.levels.now c.open.new.self c.lay_items.new.levels c.args.parts.now c.args.g c.args.h c.in-Ok.top.left c.in-Ok.top.right c.in-Ok-lay_items.after c.in-Ok.top.item x c.in-Ok-lay_items.ensures.ok c.in-Ok-lay_items.ensures.level in
-    let o = laid_on c.args.levels.now c.open.new.self c.lay_items.new.levels c.lay_item.new.levels c.args.parts.now c.args.g c.args.h c.in-Ok.top.left c.in-Ok.top.right c.in-Ok-lay_items.after c.in-Ok-lay_item.laid c.in-Ok.top.item x k c.in-Ok-lay_item.ensures.ok c.in-Ok-lay_item.ensures.level in
-    (omega (arith, o.shorter, c.decreases), (record { sound = o.sound; owned = λ m. omega (arith, o.held m) }, (o.first, o.second)))
+pub fill-fill-requires-2 : goal.fill-fill-requires-2
+fill-fill-requires-2 t c =
+    let o = c.in-Some.seen in
+    let a = c.args.levels.now in
+    let one = c.in-Ok-item_over.ensures.ok in
+    let two = c.in-Ok-fill.ensures.ok in
+    let less = smaller _ _ _ _ o.span.now c.in-Some.ensures.level in
+    let q = fills c.args.parts.now c.args.lo.now c.args.hi.now (level_of a c.args.child) (level_of a c.args.within) (level_of a o.left) o.span.now c.in-Ok-copy.span (level_of a o.child) (level_of a o.right) c.in-Some.ensures.level c.in-Ok-copy.ensures c.requires.fits in
+    let r2 = stays_two a _ _ _ _ c.requires.sound one two o.right c.in-Some.ensures.right in
+    let c2 = stays_two a _ _ _ _ c.requires.sound one two c.args.child c.requires.child in
+    (omega (arith, less.right, r2.size_same, c2.size_same, c.decreases), (two.sound, (c2.lent, (r2.lent, may_later a _ c.args.parts.now c.in-Ok-copy.span.hi c.args.hi.now c.args.child o.right c2 r2 q.back))))
 
-pub lay_items-returns-clause-level : goal.lay_items-returns-clause-level
-lay_items-returns-clause-level t c =
-    let x = taken c.args.levels.now c.open.new.self c.args.parts.now c.args.g c.args.h c.in-Ok.top.left c.in-Ok.top.right c.in-Ok.top.item c.in-Some.key c.in-Some.is c.requires.owns c.in-Ok.ensures.ok c.in-Ok.ensures.level c.requires.first c.requires.second in
-    let k = behind c.args.levels.now c.open.new.self c.lay_items.new.levels c.args.parts.now c.args.g c.args.h c.in-Ok.top.left c.in-Ok.top.right c.in-Ok-lay_items.after c.in-Ok.top.item x c.in-Ok-lay_items.ensures.ok c.in-Ok-lay_items.ensures.level in
-    let o = laid_on c.args.levels.now c.open.new.self c.lay_items.new.levels c.lay_item.new.levels c.args.parts.now c.args.g c.args.h c.in-Ok.top.left c.in-Ok.top.right c.in-Ok-lay_items.after c.in-Ok-lay_item.laid c.in-Ok.top.item x k c.in-Ok-lay_item.ensures.ok c.in-Ok-lay_item.ensures.level in
-    laid_level c.args.levels.now c.open.new.self c.lay_items.new.levels c.lay_item.new.levels c.lay_items-2.new.levels c.args.parts.now c.args.g c.args.h c.in-Ok.top.left c.in-Ok.top.right c.in-Ok-lay_items.after c.in-Ok-lay_item.laid c.in_ok-whole.whole c.in-Ok.top.item x k o
-    c.in-Ok-lay_items.ensures.level c.in-Ok-lay_item.ensures.level c.in_ok-whole.ensures.level
+pub fill-returns-in-Err-fill-2-clause-over : goal.fill-returns-in-Err-fill-2-clause-over
+fill-returns-in-Err-fill-2-clause-over t c e =
+    let o = c.in-Some.seen in
+    let a = c.args.levels.now in
+    let one = c.in-Ok-item_over.ensures.ok in
+    let two = c.in-Ok-fill.ensures.ok in
+    let q = fills c.args.parts.now c.args.lo.now c.args.hi.now (level_of a c.args.child) (level_of a c.args.within) (level_of a o.left) o.span.now c.in-Ok-copy.span (level_of a o.child) (level_of a o.right) c.in-Some.ensures.level c.in-Ok-copy.ensures c.requires.fits in
+    let w = fills_within c.args.parts.now c.args.lo.now c.args.hi.now (level_of a c.args.child) (level_of a o.left) c.in-Ok-copy.span (level_of a o.child) (level_of a o.right) (level_of a c.args.within) q in
+    let r2 = stays_two a _ _ _ _ c.requires.sound one two o.right c.in-Some.ensures.right in
+    let c2 = stays_two a _ _ _ _ c.requires.sound one two c.args.child c.requires.child in
+    over_later c.args.limit _ _ _ (c.in-Err-fill-2.ensures.over e) (filled_later a _ c.args.parts.now c.in-Ok-copy.span.hi c.args.hi.now c.args.child o.right c2 r2) w.third
 
-pub unite_below-hold-requires : goal.unite_below-hold-requires
-unite_below-hold-requires t c = owned_lent c.args.levels.now _ c.args.c c.requires.owns (λ m. omega arith)
+pub fill-glue_three-requires-clause-left : goal.fill-glue_three-requires-clause-left
+fill-glue_three-requires-clause-left t c =
+    let o = c.in-Some.seen in
+    let a = c.args.levels.now in
+    (filled_up a c.item_over.new.levels c.fill.new.levels c.fill-2.new.levels c.args.parts.now c.args.within c.args.child o.child o.left o.right c.in-Ok-item_over.middle c.in-Ok-fill.front c.in-Ok-fill-2.back c.args.lo.now c.args.hi.now c.in-Ok-copy.span o.span.now
+    c.requires.sound c.requires.child c.in-Some.ensures.left c.in-Some.ensures.right c.in-Some.ensures.level c.in-Ok-copy.ensures c.requires.fits
+    c.in-Ok-item_over.ensures.ok c.in-Ok-item_over.ensures.level c.in-Ok-fill.ensures.ok c.in-Ok-fill.ensures.level c.in-Ok-fill-2.ensures.ok c.in-Ok-fill-2.ensures.level).front_apart
 
-pub unite_below-hold-requires-2 : goal.unite_below-hold-requires-2
-unite_below-hold-requires-2 t c =
-    owned_lent c.hold.new.self (c.args.d ∷ []) c.args.d (record { sound = c.in_ok-hold.ensures.ok.sound; owned = λ m. omega (arith, c.in_ok-hold.ensures.ok.held m, c.requires.owns.owned m) }) (λ m. omega arith)
+pub fill-returns-in-Ok-glue_three-clause-level : goal.fill-returns-in-Ok-glue_three-clause-level
+fill-returns-in-Ok-glue_three-clause-level t c =
+    let o = c.in-Some.seen in
+    let a = c.args.levels.now in
+    c.in-Ok-glue_three.ensures.level
+    ∙ (filled_up a c.item_over.new.levels c.fill.new.levels c.fill-2.new.levels c.args.parts.now c.args.within c.args.child o.child o.left o.right c.in-Ok-item_over.middle c.in-Ok-fill.front c.in-Ok-fill-2.back c.args.lo.now c.args.hi.now c.in-Ok-copy.span o.span.now
+    c.requires.sound c.requires.child c.in-Some.ensures.left c.in-Some.ensures.right c.in-Some.ensures.level c.in-Ok-copy.ensures c.requires.fits
+    c.in-Ok-item_over.ensures.ok c.in-Ok-item_over.ensures.level c.in-Ok-fill.ensures.ok c.in-Ok-fill.ensures.level c.in-Ok-fill-2.ensures.ok c.in-Ok-fill-2.ensures.level).is
+
+pub fill-returns-clause-over : goal.fill-returns-clause-over
+fill-returns-clause-over t c e =
+    let o = c.in-Some.seen in
+    let a = c.args.levels.now in
+    let is = ap level_size (filled_up a c.item_over.new.levels c.fill.new.levels c.fill-2.new.levels c.args.parts.now c.args.within c.args.child o.child o.left o.right c.in-Ok-item_over.middle c.in-Ok-fill.front c.in-Ok-fill-2.back c.args.lo.now c.args.hi.now c.in-Ok-copy.span o.span.now
+    c.requires.sound c.requires.child c.in-Some.ensures.left c.in-Some.ensures.right c.in-Some.ensures.level c.in-Ok-copy.ensures c.requires.fits
+    c.in-Ok-item_over.ensures.ok c.in-Ok-item_over.ensures.level c.in-Ok-fill.ensures.ok c.in-Ok-fill.ensures.level c.in-Ok-fill-2.ensures.ok c.in-Ok-fill-2.ensures.level).is in
+    omega (arith, is, c.in-Err-glue_three.ensures.over e)
+
+pub over_item-returns-in-Ok-clause-level : goal.over_item-returns-in-Ok-clause-level
+over_item-returns-in-Ok-clause-level t c =
+    c.in-Ok.ensures.level ∙ bare_alone c.args.parts.now c.args.span.now (level_of c.args.levels.now c.args.child) (level_of c.args.levels.now c.args.h) (none_level c.args.levels.now c.args.child c.in_default.is) c.requires.alone c.requires.level
+
+pub over_item-clip-requires-clause-order : goal.over_item-clip-requires-clause-order
+over_item-clip-requires-clause-order t c =
+    parts_order c.args.parts.now (level_of c.args.levels.now c.args.h) c.requires.level
+
+pub over_item-fill-requires : goal.over_item-fill-requires
+over_item-fill-requires t c =
+    let a = c.args.levels.now in
+    let one = c.in-Ok-clip.ensures.ok in
+    let c1 = stays a _ _ c.requires.sound one c.args.child c.requires.child in (
+      omega (arith, c1.size_same, ap level_size c.in-Ok-clip.ensures.level, clipped_size c.args.span.now (level_of a c.args.h), c.decreases),
+      (
+        one.sound,
+        (
+          c1.lent,
+          (
+            given_lent a _ c.in-Ok-clip.within one,
+            subst (λ (x : Level). MayFill c.args.parts.now c.args.span.now.lo c.args.span.now.hi (level_of c.clip.new.levels c.args.child) x) (sym c.in-Ok-clip.ensures.level)
+                (subst (λ (x : Level). MayFill c.args.parts.now c.args.span.now.lo c.args.span.now.hi x (clipped c.args.span.now (level_of a c.args.h))) (sym c1.level) (item_fits c.args.parts.now c.args.span.now (level_of a c.args.child) (level_of a c.args.h) c.requires.alone c.requires.level)),
+          ),
+        ),
+      ),
+    )
+
+pub over_item-returns-in-Ok-fill-clause-level : goal.over_item-returns-in-Ok-fill-clause-level
+over_item-returns-in-Ok-fill-clause-level t c =
+    cut_filled c.args.levels.now c.clip.new.levels c.fill.new.levels c.free.new.self c.args.parts.now c.args.child c.in-Ok-clip.within c.in-Ok-fill.whole c.args.span.now (level_of c.args.levels.now c.args.h) c.requires.sound c.requires.child c.requires.alone
+    c.in-Ok-clip.ensures.ok c.in-Ok-clip.ensures.level c.in-Ok-fill.ensures.ok c.in-Ok-fill.ensures.level c.free.ensures.step
+
+pub over_item-returns-in-Err-fill-clause-over : goal.over_item-returns-in-Err-fill-clause-over
+over_item-returns-in-Err-fill-clause-over t c e =
+    let a = c.args.levels.now in
+    let one = c.in-Ok-clip.ensures.ok in
+    let c1 = stays a _ _ c.requires.sound one c.args.child c.requires.child in
+    over_later c.args.limit _ _ _ (c.in-Err-fill.ensures.over e) (ap₂ (filled c.args.parts.now c.args.span.now.lo c.args.span.now.hi) c1.level c.in-Ok-clip.ensures.level ∙ item_filled c.args.parts.now c.args.span.now (level_of a c.args.child) (level_of a c.args.h) c.requires.alone) (omega arith)
+
+pub unite-returns-in-Ok-clause-level : goal.unite-returns-in-Ok-clause-level
+unite-returns-in-Ok-clause-level t c =
+    c.in-Ok.ensures.level ∙ same_either c.args.levels.now c.args.parts.now c.args.g c.args.h (c.is_same_link.ensures c.if-is_same_link.true) c.requires.first
+
+pub unite-returns-in-Err-clause-over : goal.unite-returns-in-Err-clause-over
+unite-returns-in-Err-clause-over t c e =
+    over_later c.args.limit _ _ _ (c.in-Err.ensures.over e) (same_either c.args.levels.now c.args.parts.now c.args.g c.args.h (c.is_same_link.ensures c.if-is_same_link.true) c.requires.first) (omega arith)
+
+pub unite-returns-in-Ok-walk-clause-level : goal.unite-returns-in-Ok-walk-clause-level
+unite-returns-in-Ok-walk-clause-level t c =
+    c.in-Ok-walk.ensures.level ∙ either_turn c.args.parts.now (level_of c.args.levels.now c.args.h) (level_of c.args.levels.now c.args.g) c.requires.second c.requires.first
+
+pub unite-returns-in-Err-walk-clause-over : goal.unite-returns-in-Err-walk-clause-over
+unite-returns-in-Err-walk-clause-over t c e =
+    over_later c.args.limit _ _ _ (c.in-Err-walk.ensures.over e) (either_turn c.args.parts.now (level_of c.args.levels.now c.args.h) (level_of c.args.levels.now c.args.g) c.requires.second c.requires.first) (omega arith)
+
+pub unite_ahead-ahead-requires-clause-order : goal.unite_ahead-ahead-requires-clause-order
+unite_ahead-ahead-requires-clause-order t c =
+    parts_order c.args.parts.now (level_of c.args.levels.now c.args.h) c.requires.second
+
+pub unite_ahead-unite-requires : goal.unite_ahead-unite-requires
+unite_ahead-unite-requires t c =
+    let a = c.args.levels.now in
+    let one = c.in-Ok.ensures.ok in
+    let s1 = stays a _ _ c.requires.sound one c.args.side c.requires.side in (
+      omega (arith, s1.size_same, ap level_size c.in-Ok.ensures.level, before_size c.args.edge.now (level_of a c.args.h), c.decreases),
+      (one.sound, (s1.lent, (given_lent a _ c.in-Ok.cut one, (placed_later a _ c.args.parts.now c.args.side s1 c.requires.first, subst (ArePlaced c.args.parts.now) (sym c.in-Ok.ensures.level) (ahead_placed c.args.parts.now c.args.edge.now (level_of a c.args.h) c.requires.second))))),
+    )
+
+pub unite_ahead-returns-in-Ok-unite-clause-level : goal.unite_ahead-returns-in-Ok-unite-clause-level
+unite_ahead-returns-in-Ok-unite-clause-level t c =
+    cut_either c.args.levels.now c.ahead.new.levels c.unite.new.levels c.free.new.self c.args.parts.now c.args.side c.in-Ok.cut c.in-Ok-unite.whole (before c.args.edge.now (level_of c.args.levels.now c.args.h)) c.requires.sound c.requires.side
+    c.in-Ok.ensures.ok c.in-Ok.ensures.level c.in-Ok-unite.ensures.ok c.in-Ok-unite.ensures.level c.free.ensures.step
+
+pub unite_ahead-returns-in-Err-clause-over : goal.unite_ahead-returns-in-Err-clause-over
+unite_ahead-returns-in-Err-clause-over t c e =
+    let a = c.args.levels.now in
+    let one = c.in-Ok.ensures.ok in
+    let s1 = stays a _ _ c.requires.sound one c.args.side c.requires.side in
+    over_later c.args.limit _ _ _ (c.in-Err.ensures.over e) (ap₂ (either c.args.parts.now) s1.level c.in-Ok.ensures.level) (omega arith)
+
+pub unite_behind-behind-requires-clause-order : goal.unite_behind-behind-requires-clause-order
+unite_behind-behind-requires-clause-order t c =
+    parts_order c.args.parts.now (level_of c.args.levels.now c.args.h) c.requires.second
+
+pub unite_behind-unite-requires : goal.unite_behind-unite-requires
+unite_behind-unite-requires t c =
+    let a = c.args.levels.now in
+    let one = c.in-Ok.ensures.ok in
+    let s1 = stays a _ _ c.requires.sound one c.args.side c.requires.side in (
+      omega (arith, s1.size_same, ap level_size c.in-Ok.ensures.level, after_size c.args.edge.now (level_of a c.args.h), c.decreases),
+      (one.sound, (s1.lent, (given_lent a _ c.in-Ok.cut one, (placed_later a _ c.args.parts.now c.args.side s1 c.requires.first, subst (ArePlaced c.args.parts.now) (sym c.in-Ok.ensures.level) (behind_placed c.args.parts.now c.args.edge.now (level_of a c.args.h) c.requires.second))))),
+    )
+
+pub unite_behind-returns-in-Ok-unite-clause-level : goal.unite_behind-returns-in-Ok-unite-clause-level
+unite_behind-returns-in-Ok-unite-clause-level t c =
+    cut_either c.args.levels.now c.behind.new.levels c.unite.new.levels c.free.new.self c.args.parts.now c.args.side c.in-Ok.cut c.in-Ok-unite.whole (after c.args.edge.now (level_of c.args.levels.now c.args.h)) c.requires.sound c.requires.side
+    c.in-Ok.ensures.ok c.in-Ok.ensures.level c.in-Ok-unite.ensures.ok c.in-Ok-unite.ensures.level c.free.ensures.step
+
+pub unite_behind-returns-in-Err-clause-over : goal.unite_behind-returns-in-Err-clause-over
+unite_behind-returns-in-Err-clause-over t c e =
+    let a = c.args.levels.now in
+    let one = c.in-Ok.ensures.ok in
+    let s1 = stays a _ _ c.requires.sound one c.args.side c.requires.side in
+    over_later c.args.limit _ _ _ (c.in-Err.ensures.over e) (ap₂ (either c.args.parts.now) s1.level c.in-Ok.ensures.level) (omega arith)
+
+pub unite_below-returns-then-count-eq0-clause-level : goal.unite_below-returns-then-count-eq0-clause-level
+unite_below-returns-then-count-eq0-clause-level t c =
+    elim c.then-count-eq0.branch [
+      | unite_below-then-count-eq0-via-then-count-eq0 w ↦ below_first c.args.parts.now (level_of c.args.levels.now c.args.c) (level_of c.args.levels.now c.args.d) (omega (arith, w.if-count-eq0.true, c.count.ensures))
+      | unite_below-then-count-eq0-via-else-count-eq0+then-count-eq0-2 w ↦ below_second c.args.parts.now (level_of c.args.levels.now c.args.c) (level_of c.args.levels.now c.args.d) (omega (arith, w.if-count-eq0-2.true, w.count-else-count-eq0.ensures))
+    ]
+
+pub unite_below-returns-in-Err-clause-over : goal.unite_below-returns-in-Err-clause-over
+unite_below-returns-in-Err-clause-over t c e =
+    let below : List Bool = take (length c.args.parts.now - 1) (drop 1 c.args.parts.now) in
+    let is_parts : c.args.parts.now ≡ get_or c.args.parts.now 0 false ∷ below = first_and_rest c.args.parts.now c.in-len1-up.len_at_least in
+    let is_below : below ≡ get_or below 0 false ∷ drop 1 below = first_and_drop below c.in-len1-up-below.len_at_least in
+    let some : length_of (level_of c.args.levels.now c.args.c) ≡ 0 → ⊥ = (λ none. omega (arith, c.if-count-eq0.false, c.count.ensures, none)) in
+    let other : length_of (level_of c.args.levels.now c.args.d) ≡ 0 → ⊥ = (λ none. omega (arith, c.if-count-eq0-2.false, c.count-else-count-eq0.ensures, none)) in
+    omega (arith, c.in-Err.ensures.over e, below_size c.args.parts.now below (drop 1 below) (get_or c.args.parts.now 0 false) (get_or below 0 false) (level_of c.args.levels.now c.args.c) (level_of c.args.levels.now c.args.d) is_parts is_below some other)
 
 pub unite_below-is_all-requires : goal.unite_below-is_all-requires
 unite_below-is_all-requires t c =
-    let one = c.in_ok-hold.ensures.ok in
-    let two = c.in-Ok.ensures.ok in
-    let three = c.in_ok-whole.ensures.ok in
-    owned_lent c.lay_items.new.levels (c.in_ok-whole.whole ∷ []) c.in_ok-whole.whole (record { sound = three.sound; owned = λ m. omega (arith, three.held m, two.held m, one.held m, c.requires.owns.owned m) }) (λ m. omega arith)
-
-pub unite_below-returns-then-count-eq0-clause-level : goal.unite_below-returns-then-count-eq0-clause-level
-unite_below-returns-then-count-eq0-clause-level t c = elim c.then-count-eq0.branch [
-  | unite_below-then-count-eq0-via-then-count-eq0 w ↦ below_first c.args.parts.now (level_of c.args.levels.now c.args.c) (level_of c.args.levels.now c.args.d) (omega (arith, w.if-count-eq0.true, c.count.ensures))
-  | unite_below-then-count-eq0-via-else-count-eq0+then-count-eq0-2 w ↦ below_second c.args.parts.now (level_of c.args.levels.now c.args.c) (level_of c.args.levels.now c.args.d) (omega (arith, w.if-count-eq0-2.true, w.count-else-count-eq0.ensures))
-]
+    given_lent c.args.levels.now c.unite.new.levels c.in-Ok.whole c.in-Ok.ensures.ok
 
 pub unite_below-returns-then-is_all-clause-level : goal.unite_below-returns-then-is_all-clause-level
 unite_below-returns-then-is_all-clause-level t c =
     let below : List Bool = take (length c.args.parts.now - 1) (drop 1 c.args.parts.now) in
     let is_parts : c.args.parts.now ≡ get_or c.args.parts.now 0 false ∷ below = first_and_rest c.args.parts.now c.in-len1-up.len_at_least in
     let is_below : below ≡ get_or below 0 false ∷ drop 1 below = first_and_drop below c.in-len1-up-below.len_at_least in
-    let held = are_held c.args.levels.now c.hold.new.self c.hold-2.new.self c.args.parts.now below (get_or c.args.parts.now 0 false) c.args.c c.args.d is_parts c.requires.owns c.in_ok-hold.ensures.ok c.in-Ok.ensures.ok c.requires.first c.requires.second in
-    let both = united c.args.levels.now c.hold-2.new.self c.lay_items.new.levels c.args.parts.now below (drop 1 below) (get_or c.args.parts.now 0 false) (get_or below 0 false) c.args.c c.args.d c.in_ok-whole.whole held is_parts is_below
-    (λ none. omega (arith, c.if-count-eq0.false, c.count.ensures, none))
-    (λ none. omega (arith, c.if-count-eq0-2.false, c.count-else-count-eq0.ensures, none))
-    c.in_ok-whole.ensures.level in
-    all_below (get_or below 0 false) (level_of c.lay_items.new.levels c.in_ok-whole.whole) (union_below c.args.parts.now (level_of c.args.levels.now c.args.c) (level_of c.args.levels.now c.args.d)) c.is_all.result c.is_all.ensures c.if-is_all.true both
+    let some : length_of (level_of c.args.levels.now c.args.c) ≡ 0 → ⊥ = (λ none. omega (arith, c.if-count-eq0.false, c.count.ensures, none)) in
+    let other : length_of (level_of c.args.levels.now c.args.d) ≡ 0 → ⊥ = (λ none. omega (arith, c.if-count-eq0-2.false, c.count-else-count-eq0.ensures, none)) in
+    let both = below_some c.args.parts.now below (drop 1 below) (get_or c.args.parts.now 0 false) (get_or below 0 false) (level_of c.args.levels.now c.args.c) (level_of c.args.levels.now c.args.d) (level_of c.unite.new.levels c.in-Ok.whole) is_parts is_below some other c.in-Ok.ensures.level in
+    all_below (get_or below 0 false) (level_of c.unite.new.levels c.in-Ok.whole) (union_below c.args.parts.now (level_of c.args.levels.now c.args.c) (level_of c.args.levels.now c.args.d)) c.is_all.result c.is_all.ensures c.if-is_all.true both
 
 pub unite_below-returns-clause-level : goal.unite_below-returns-clause-level
 unite_below-returns-clause-level t c =
     let below : List Bool = take (length c.args.parts.now - 1) (drop 1 c.args.parts.now) in
     let is_parts : c.args.parts.now ≡ get_or c.args.parts.now 0 false ∷ below = first_and_rest c.args.parts.now c.in-len1-up.len_at_least in
     let is_below : below ≡ get_or below 0 false ∷ drop 1 below = first_and_drop below c.in-len1-up-below.len_at_least in
-    let held = are_held c.args.levels.now c.hold.new.self c.hold-2.new.self c.args.parts.now below (get_or c.args.parts.now 0 false) c.args.c c.args.d is_parts c.requires.owns c.in_ok-hold.ensures.ok c.in-Ok.ensures.ok c.requires.first c.requires.second in
-    let both = united c.args.levels.now c.hold-2.new.self c.lay_items.new.levels c.args.parts.now below (drop 1 below) (get_or c.args.parts.now 0 false) (get_or below 0 false) c.args.c c.args.d c.in_ok-whole.whole held is_parts is_below
-    (λ none. omega (arith, c.if-count-eq0.false, c.count.ensures, none))
-    (λ none. omega (arith, c.if-count-eq0-2.false, c.count-else-count-eq0.ensures, none))
-    c.in_ok-whole.ensures.level in
-    some_below (get_or below 0 false) (level_of c.lay_items.new.levels c.in_ok-whole.whole) (union_below c.args.parts.now (level_of c.args.levels.now c.args.c) (level_of c.args.levels.now c.args.d)) c.is_all.result c.is_all.ensures c.if-is_all.false both
+    let some : length_of (level_of c.args.levels.now c.args.c) ≡ 0 → ⊥ = (λ none. omega (arith, c.if-count-eq0.false, c.count.ensures, none)) in
+    let other : length_of (level_of c.args.levels.now c.args.d) ≡ 0 → ⊥ = (λ none. omega (arith, c.if-count-eq0-2.false, c.count-else-count-eq0.ensures, none)) in
+    let both = below_some c.args.parts.now below (drop 1 below) (get_or c.args.parts.now 0 false) (get_or below 0 false) (level_of c.args.levels.now c.args.c) (level_of c.args.levels.now c.args.d) (level_of c.unite.new.levels c.in-Ok.whole) is_parts is_below some other c.in-Ok.ensures.level in
+    some_below (get_or below 0 false) (level_of c.unite.new.levels c.in-Ok.whole) (union_below c.args.parts.now (level_of c.args.levels.now c.args.c) (level_of c.args.levels.now c.args.d)) c.is_all.result c.is_all.ensures c.if-is_all.false both
 
-pub lay_from_top-lay_from_top-requires : goal.lay_from_top-lay_from_top-requires
-lay_from_top-lay_from_top-requires t c =
-    let x = taken_aside c.args.levels.now c.open.new.self c.args.parts.now c.args.item c.in-Ok.top.item c.args.root c.in-Ok.top.left c.in-Ok.top.right c.in-Some.key c.in-Some.is c.requires.owns c.in-Ok.ensures.ok c.in-Ok.ensures.level c.requires.alone c.requires.level in
-    (omega (arith, x.long, c.decreases), (record { sound = x.sound; owned = λ m. omega (arith, x.held m) }, (x.alone, aside_right c.args.levels.now c.open.new.self c.args.parts.now c.args.item c.in-Ok.top.item c.args.root c.in-Ok.top.left c.in-Ok.top.right x)))
+pub walk-returns-in-Ok-clause-level : goal.walk-returns-in-Ok-clause-level
+walk-returns-in-Ok-clause-level t c =
+    c.in-Ok.ensures.level ∙ none_first c.args.levels.now c.args.parts.now c.args.g c.args.h c.in_default.ensures.none c.requires.second
 
-pub lay_from_top-lay_from_top-requires-in-Left : goal.lay_from_top-lay_from_top-requires-in-Left
-lay_from_top-lay_from_top-requires-in-Left t c =
-    let x = taken_aside c.args.levels.now c.open.new.self c.args.parts.now c.args.item c.in-Ok.top.item c.args.root c.in-Ok.top.left c.in-Ok.top.right c.in-Some.key c.in-Some.is c.requires.owns c.in-Ok.ensures.ok c.in-Ok.ensures.level c.requires.alone c.requires.level in
-    (omega (arith, x.long, c.decreases), (record { sound = x.sound; owned = λ m. omega (arith, x.held m) }, (x.alone, aside_left c.args.levels.now c.open.new.self c.args.parts.now c.args.item c.in-Ok.top.item c.args.root c.in-Ok.top.left c.in-Ok.top.right x)))
+pub walk-returns-in-Err-clause-over : goal.walk-returns-in-Err-clause-over
+walk-returns-in-Err-clause-over t c e =
+    over_later c.args.limit _ _ _ (c.in-Err.ensures.over e) (none_first c.args.levels.now c.args.parts.now c.args.g c.args.h c.in_default.ensures.none c.requires.second) (omega arith)
 
-pub lay_from_top-returns-in_ok-whole-in-Right-clause-level : goal.lay_from_top-returns-in_ok-whole-in-Right-clause-level
-lay_from_top-returns-in_ok-whole-in-Right-clause-level t c =
-    let x = taken_aside c.args.levels.now c.open.new.self c.args.parts.now c.args.item c.in-Ok.top.item c.args.root c.in-Ok.top.left c.in-Ok.top.right c.in-Some.key c.in-Some.is c.requires.owns c.in-Ok.ensures.ok c.in-Ok.ensures.level c.requires.alone c.requires.level in
-    right_level c.args.levels.now c.open.new.self c.lay_from_top.new.levels c.join-in-Right.new.levels c.args.parts.now c.args.item c.in-Ok.top.item c.args.root c.in-Ok.top.left c.in-Ok.top.right c.in-Ok-lay_from_top.back c.in_ok-whole-in-Right.whole x c.in-Ok-lay_from_top.ensures.ok (c.in-Right.ensures.right refl) c.in-Ok-lay_from_top.ensures.level c.in_ok-whole-in-Right.ensures.level
+pub walk-over_item-requires : goal.walk-over_item-requires
+walk-over_item-requires t c =
+    let o = c.in-Some.seen in
+    let less = smaller _ _ _ _ o.span.now c.in-Some.ensures.level in
+    let p = apart c.args.parts.now (level_of c.args.levels.now c.args.g) (level_of c.args.levels.now o.left) o.span.now c.in-Ok-copy.span (level_of c.args.levels.now o.child) (level_of c.args.levels.now o.right) c.in-Some.ensures.level c.in-Ok-copy.ensures c.requires.first in
+    (omega (arith, less.child, c.decreases), (c.requires.sound, (c.in-Some.ensures.child, (c.requires.h, (p.alone, c.requires.second)))))
 
-pub lay_from_top-returns-in_ok-whole-in-Left-clause-level : goal.lay_from_top-returns-in_ok-whole-in-Left-clause-level
-lay_from_top-returns-in_ok-whole-in-Left-clause-level t c =
-    let x = taken_aside c.args.levels.now c.open.new.self c.args.parts.now c.args.item c.in-Ok.top.item c.args.root c.in-Ok.top.left c.in-Ok.top.right c.in-Some.key c.in-Some.is c.requires.owns c.in-Ok.ensures.ok c.in-Ok.ensures.level c.requires.alone c.requires.level in
-    left_level c.args.levels.now c.open.new.self c.lay_from_top-in-Left.new.levels c.join-in-Left.new.levels c.args.parts.now c.args.item c.in-Ok.top.item c.args.root c.in-Ok.top.left c.in-Ok.top.right c.in-Ok-lay_from_top-2.front c.in_ok-whole-in-Left.whole x c.in-Ok-lay_from_top-2.ensures.ok (c.in-Left.ensures.left refl) c.in-Ok-lay_from_top-2.ensures.level c.in_ok-whole-in-Left.ensures.level
+pub walk-returns-in-Err-over_item-clause-over : goal.walk-returns-in-Err-over_item-clause-over
+walk-returns-in-Err-over_item-clause-over t c e =
+    let o = c.in-Some.seen in
+    let a = c.args.levels.now in
+    let w = parts_within c.args.parts.now (level_of a c.args.g) (level_of a o.left) o.span.now c.in-Ok-copy.span (level_of a o.child) (level_of a o.right) (level_of a c.args.h) c.in-Some.ensures.level c.in-Ok-copy.ensures c.requires.first c.requires.second in
+    omega (arith, w.second, c.in-Err-over_item.ensures.over e)
 
-pub lay_from_top-lay_at_top-requires : goal.lay_from_top-lay_at_top-requires
-lay_from_top-lay_at_top-requires t c =
-    let x = taken_aside c.args.levels.now c.open.new.self c.args.parts.now c.args.item c.in-Ok.top.item c.args.root c.in-Ok.top.left c.in-Ok.top.right c.in-Some.key c.in-Some.is c.requires.owns c.in-Ok.ensures.ok c.in-Ok.ensures.level c.requires.alone c.requires.level in
-    (omega (arith, x.long, c.decreases), (record { sound = x.sound; owned = λ m. omega (arith, x.held m) }, (x.alone, (x.placed, c.in-Neither.ensures.neither refl))))
+pub walk-unite_ahead-requires : goal.walk-unite_ahead-requires
+walk-unite_ahead-requires t c =
+    let o = c.in-Some.seen in
+    let a = c.args.levels.now in
+    let one = c.in-Ok-over_item.ensures.ok in
+    let less = smaller _ _ _ _ o.span.now c.in-Some.ensures.level in
+    let p = apart c.args.parts.now (level_of c.args.levels.now c.args.g) (level_of c.args.levels.now o.left) o.span.now c.in-Ok-copy.span (level_of c.args.levels.now o.child) (level_of c.args.levels.now o.right) c.in-Some.ensures.level c.in-Ok-copy.ensures c.requires.first in
+    let l1 = stays a _ _ c.requires.sound one o.left c.in-Some.ensures.left in
+    let h1 = stays a _ _ c.requires.sound one c.args.h c.requires.h in
+    (omega (arith, less.left, l1.size_same, h1.size_same, c.decreases), (one.sound, (l1.lent, (h1.lent, (placed_later a _ c.args.parts.now o.left l1 p.left, placed_later a _ c.args.parts.now c.args.h h1 c.requires.second)))))
 
-pub lay_from_top-returns-in_ok-whole-in-Neither-clause-level : goal.lay_from_top-returns-in_ok-whole-in-Neither-clause-level
-lay_from_top-returns-in_ok-whole-in-Neither-clause-level t c =
-    let x = taken_aside c.args.levels.now c.open.new.self c.args.parts.now c.args.item c.in-Ok.top.item c.args.root c.in-Ok.top.left c.in-Ok.top.right c.in-Some.key c.in-Some.is c.requires.owns c.in-Ok.ensures.ok c.in-Ok.ensures.level c.requires.alone c.requires.level in
-    over_level c.args.levels.now c.open.new.self c.lay_at_top.new.levels c.args.parts.now c.args.item c.in-Ok.top.item c.args.root c.in-Ok.top.left c.in-Ok.top.right c.in_ok-whole-in-Neither.whole x c.in_ok-whole-in-Neither.ensures.level
+pub walk-returns-in-Err-unite_ahead-clause-over : goal.walk-returns-in-Err-unite_ahead-clause-over
+walk-returns-in-Err-unite_ahead-clause-over t c e =
+    let o = c.in-Some.seen in
+    let a = c.args.levels.now in
+    let one = c.in-Ok-over_item.ensures.ok in
+    let w = parts_within c.args.parts.now (level_of a c.args.g) (level_of a o.left) o.span.now c.in-Ok-copy.span (level_of a o.child) (level_of a o.right) (level_of a c.args.h) c.in-Some.ensures.level c.in-Ok-copy.ensures c.requires.first c.requires.second in
+    let l1 = stays a _ _ c.requires.sound one o.left c.in-Some.ensures.left in
+    let h1 = stays a _ _ c.requires.sound one c.args.h c.requires.h in
+    over_later c.args.limit _ _ _ (c.in-Err-unite_ahead.ensures.over e) (ahead_later a _ c.args.parts.now o.left c.args.h c.in-Ok-copy.span.lo l1 h1) w.first
 
-pub lay_at_top-lay_before-requires : goal.lay_at_top-lay_before-requires
-lay_at_top-lay_before-requires t c = (
-  omega (arith, c.decreases),
-  (
-    record { sound = c.requires.owns.sound; owned = λ m. omega (arith, c.requires.owns.owned m) },
-    (c.requires.alone, placed_left c.args.parts.now (level_of c.args.levels.now c.args.top.left) _ c.requires.level),
-  ),
-)
+pub walk-unite_behind-requires : goal.walk-unite_behind-requires
+walk-unite_behind-requires t c =
+    let o = c.in-Some.seen in
+    let a = c.args.levels.now in
+    let one = c.in-Ok-over_item.ensures.ok in
+    let two = c.in-Ok-unite_ahead.ensures.ok in
+    let less = smaller _ _ _ _ o.span.now c.in-Some.ensures.level in
+    let p = apart c.args.parts.now (level_of c.args.levels.now c.args.g) (level_of c.args.levels.now o.left) o.span.now c.in-Ok-copy.span (level_of c.args.levels.now o.child) (level_of c.args.levels.now o.right) c.in-Some.ensures.level c.in-Ok-copy.ensures c.requires.first in
+    let r2 = stays_two a _ _ _ _ c.requires.sound one two o.right c.in-Some.ensures.right in
+    let h2 = stays_two a _ _ _ _ c.requires.sound one two c.args.h c.requires.h in
+    (omega (arith, less.right, r2.size_same, h2.size_same, c.decreases), (two.sound, (r2.lent, (h2.lent, (placed_later a _ c.args.parts.now o.right r2 p.right, placed_later a _ c.args.parts.now c.args.h h2 c.requires.second)))))
 
-pub lay_at_top-lay_on_and_behind-requires : goal.lay_at_top-lay_on_and_behind-requires
-lay_at_top-lay_on_and_behind-requires t c =
-    let x = fronted c.args.levels.now c.lay_before.new.levels c.args.parts.now c.args.item c.args.top.item c.args.top.left c.args.top.right c.in-Ok.front c.requires.owns c.in-Ok.ensures.ok c.requires.alone c.requires.level c.in-Ok.ensures.level in
-    (omega (arith, ap length_of x.behind, c.decreases), (record { sound = x.sound; owned = λ m. omega (arith, x.held m) }, (x.alone, x.placed)))
+pub walk-returns-in-Err-unite_behind-clause-over : goal.walk-returns-in-Err-unite_behind-clause-over
+walk-returns-in-Err-unite_behind-clause-over t c e =
+    let o = c.in-Some.seen in
+    let a = c.args.levels.now in
+    let one = c.in-Ok-over_item.ensures.ok in
+    let two = c.in-Ok-unite_ahead.ensures.ok in
+    let w = parts_within c.args.parts.now (level_of a c.args.g) (level_of a o.left) o.span.now c.in-Ok-copy.span (level_of a o.child) (level_of a o.right) (level_of a c.args.h) c.in-Some.ensures.level c.in-Ok-copy.ensures c.requires.first c.requires.second in
+    let r2 = stays_two a _ _ _ _ c.requires.sound one two o.right c.in-Some.ensures.right in
+    let h2 = stays_two a _ _ _ _ c.requires.sound one two c.args.h c.requires.h in
+    over_later c.args.limit _ _ _ (c.in-Err-unite_behind.ensures.over e) (behind_later a _ c.args.parts.now o.right c.args.h c.in-Ok-copy.span.hi r2 h2) w.third
 
-pub lay_at_top-glue-requires-clause-apart : goal.lay_at_top-glue-requires-clause-apart
-lay_at_top-glue-requires-clause-apart t c =
-    let x = fronted c.args.levels.now c.lay_before.new.levels c.args.parts.now c.args.item c.args.top.item c.args.top.left c.args.top.right c.in-Ok.front c.requires.owns c.in-Ok.ensures.ok c.requires.alone c.requires.level c.in-Ok.ensures.level in
-    front_apart c.args.levels.now c.lay_before.new.levels c.lay_on_and_behind.new.levels c.args.parts.now c.args.item c.args.top.item c.args.top.right c.in-Ok.front _ x c.in-Ok-lay_on_and_behind.ensures.ok
+pub walk-glue_three-requires-clause-left : goal.walk-glue_three-requires-clause-left
+walk-glue_three-requires-clause-left t c =
+    let o = c.in-Some.seen in
+    let a = c.args.levels.now in
+    (united a c.over_item.new.levels c.unite_ahead.new.levels c.unite_behind.new.levels c.args.parts.now c.args.g c.args.h o.child o.left o.right c.in-Ok-over_item.middle c.in-Ok-unite_ahead.front c.in-Ok-unite_behind.back c.in-Ok-copy.span o.span.now
+    c.requires.sound c.requires.h c.in-Some.ensures.left c.in-Some.ensures.right c.in-Some.ensures.level c.in-Ok-copy.ensures c.requires.first c.requires.second
+    c.in-Ok-over_item.ensures.ok c.in-Ok-over_item.ensures.level c.in-Ok-unite_ahead.ensures.ok c.in-Ok-unite_ahead.ensures.level c.in-Ok-unite_behind.ensures.ok c.in-Ok-unite_behind.ensures.level).front_apart
 
-pub lay_at_top-returns-in_ok-whole-in-Ok-lay_on_and_behind-clause-level : goal.lay_at_top-returns-in_ok-whole-in-Ok-lay_on_and_behind-clause-level
-lay_at_top-returns-in_ok-whole-in-Ok-lay_on_and_behind-clause-level t c =
-    let x = fronted c.args.levels.now c.lay_before.new.levels c.args.parts.now c.args.item c.args.top.item c.args.top.left c.args.top.right c.in-Ok.front c.requires.owns c.in-Ok.ensures.ok c.requires.alone c.requires.level c.in-Ok.ensures.level in
-    across_level c.args.levels.now c.lay_before.new.levels c.lay_on_and_behind.new.levels c.glue.new.levels c.args.parts.now c.args.item c.args.top.item c.args.top.left c.args.top.right c.in-Ok.front c.in-Ok-lay_on_and_behind.back c.in_ok-whole-in-Ok-lay_on_and_behind.whole x
-    c.in-Ok-lay_on_and_behind.ensures.ok c.requires.alone c.requires.level c.requires.reaches c.in-Ok.ensures.level c.in-Ok-lay_on_and_behind.ensures.level c.in_ok-whole-in-Ok-lay_on_and_behind.ensures.level
+pub walk-glue_three-requires-clause-middle : goal.walk-glue_three-requires-clause-middle
+walk-glue_three-requires-clause-middle t c =
+    let o = c.in-Some.seen in
+    let a = c.args.levels.now in
+    (united a c.over_item.new.levels c.unite_ahead.new.levels c.unite_behind.new.levels c.args.parts.now c.args.g c.args.h o.child o.left o.right c.in-Ok-over_item.middle c.in-Ok-unite_ahead.front c.in-Ok-unite_behind.back c.in-Ok-copy.span o.span.now
+    c.requires.sound c.requires.h c.in-Some.ensures.left c.in-Some.ensures.right c.in-Some.ensures.level c.in-Ok-copy.ensures c.requires.first c.requires.second
+    c.in-Ok-over_item.ensures.ok c.in-Ok-over_item.ensures.level c.in-Ok-unite_ahead.ensures.ok c.in-Ok-unite_ahead.ensures.level c.in-Ok-unite_behind.ensures.ok c.in-Ok-unite_behind.ensures.level).middle_apart
 
-pub lay_before-lay_from_top-requires : goal.lay_before-lay_from_top-requires
-lay_before-lay_from_top-requires t c =
-    let x = piece_made c.args.levels.now c.shared_item.new.levels c.args.parts.now c.args.item.now c.in-Ok.piece c.args.edge.now c.args.rest c.compare_ends.result c.requires.owns c.in-Ok.ensures.ok c.in-Ok.ensures.child c.in-Ok.ensures.span c.compare_ends.ensures c.in-Less.is c.requires.alone c.requires.level in
-    (omega (arith, ap length_of x.kept, c.decreases), (record { sound = x.sound; owned = λ m. omega (arith, x.held m) }, (x.alone, x.placed)))
+pub walk-returns-in-Ok-glue_three-clause-level : goal.walk-returns-in-Ok-glue_three-clause-level
+walk-returns-in-Ok-glue_three-clause-level t c =
+    let o = c.in-Some.seen in
+    let a = c.args.levels.now in
+    c.in-Ok-glue_three.ensures.level
+    ∙ (united a c.over_item.new.levels c.unite_ahead.new.levels c.unite_behind.new.levels c.args.parts.now c.args.g c.args.h o.child o.left o.right c.in-Ok-over_item.middle c.in-Ok-unite_ahead.front c.in-Ok-unite_behind.back c.in-Ok-copy.span o.span.now
+    c.requires.sound c.requires.h c.in-Some.ensures.left c.in-Some.ensures.right c.in-Some.ensures.level c.in-Ok-copy.ensures c.requires.first c.requires.second
+    c.in-Ok-over_item.ensures.ok c.in-Ok-over_item.ensures.level c.in-Ok-unite_ahead.ensures.ok c.in-Ok-unite_ahead.ensures.level c.in-Ok-unite_behind.ensures.ok c.in-Ok-unite_behind.ensures.level).is
 
-pub lay_on_and_behind-unite_common-requires : goal.lay_on_and_behind-unite_common-requires
-lay_on_and_behind-unite_common-requires t c =
-    let k = kept_below c.args.levels.now c.lay_behind.new.levels c.args.parts.now c.args.item c.args.under c.args.rest c.in-Ok.behind c.requires.owns c.in-Ok.ensures.ok c.requires.alone c.requires.level in
-    (omega (arith, c.decreases), (record { sound = c.in-Ok.ensures.ok.sound; owned = λ m. omega (arith, c.requires.owns.owned m, c.in-Ok.ensures.ok.held m) }, (k.first, k.second)))
-
-pub lay_on_and_behind-returns-clause-level : goal.lay_on_and_behind-returns-clause-level
-lay_on_and_behind-returns-clause-level t c =
-    onto_level c.args.levels.now c.lay_behind.new.levels c.unite_common.new.levels c.spread.new.levels c.args.parts.now c.args.item c.args.under c.args.rest c.in-Ok.behind c.in-Ok-unite_common.both c.in_ok-whole.whole
-    c.requires.owns c.in-Ok.ensures.ok c.in-Ok-unite_common.ensures.ok c.in-Ok.ensures.level c.in-Ok-unite_common.ensures.level c.in_ok-whole.ensures.level
+pub walk-returns-clause-over : goal.walk-returns-clause-over
+walk-returns-clause-over t c e =
+    let o = c.in-Some.seen in
+    let a = c.args.levels.now in
+    let is = ap level_size (united a c.over_item.new.levels c.unite_ahead.new.levels c.unite_behind.new.levels c.args.parts.now c.args.g c.args.h o.child o.left o.right c.in-Ok-over_item.middle c.in-Ok-unite_ahead.front c.in-Ok-unite_behind.back c.in-Ok-copy.span o.span.now
+    c.requires.sound c.requires.h c.in-Some.ensures.left c.in-Some.ensures.right c.in-Some.ensures.level c.in-Ok-copy.ensures c.requires.first c.requires.second
+    c.in-Ok-over_item.ensures.ok c.in-Ok-over_item.ensures.level c.in-Ok-unite_ahead.ensures.ok c.in-Ok-unite_ahead.ensures.level c.in-Ok-unite_behind.ensures.ok c.in-Ok-unite_behind.ensures.level).is in
+    omega (arith, is, c.in-Err-glue_three.ensures.over e)
