@@ -17,8 +17,6 @@ pub enum Fault {
     Left,
     /// Memory is wanting.
     NoMemory,
-    /// A line can't be printed, or the file can't be read.
-    Broken,
 }
 
 impl Fault {
@@ -38,7 +36,6 @@ impl Fault {
             Fault::OverLimit => Some("over the limit"),
             Fault::Left => Some("items are left"),
             Fault::NoMemory => None,
-            Fault::Broken => None,
         }
     }
 }

@@ -10,56 +10,35 @@ mod operands;
 mod spans;
 mod told;
 
+use case_lines::{Cases, carry_out};
 use cases::case_told;
 use faults::Fault;
-use rx_outside::read_whole;
 use rx_real::RealFiles;
 use rx_value::Bytes;
-use std::alloc::Global;
-use std::io::Print;
+use std::alloc::{AllocError, Global};
 use std::process::ExitCode;
-use std::{env, str};
 use told::Told;
 
-// The most bytes of a file of cases.
-const MOST: u64 = 1_000_000;
+// The case of a line, and what it asks for. That stands behind a '?'.
+#[derive(Drop)]
+struct Asked;
 
-// The name of the file of cases, the one word after the program's name.
-fn name_of(alloc: Global, rt: &HostRuntime) -> Result<String, Fault> {
-    let Ok(all) = env::args(rt) else {
-        return Err(Fault::Broken);
-    };
-    let Ok(words) = all.skip(1).collect::<Vec<String>>(alloc) else {
-        return Err(Fault::NoMemory);
-    };
-    match words.into_iter().next() {
-        Some(name) => Ok(name),
-        None => Err(Fault::Broken),
-    }
-}
-
-// Prints what is told where a word asks for it.
-fn print_values(rt: &impl Print, told: &Told, asked: &str) -> Result<(), Fault> {
-    for word in asked.split_whitespace() {
-        let printed = match told.value(word) {
-            Some(value) => print!(rt; " {word} {value}"),
-            None => print!(rt; " {word} unreadable"),
-        };
-        if printed.is_err() {
-            return Err(Fault::Broken);
+impl Cases for Asked {
+    fn add(
+        &mut self,
+        alloc: Global,
+        _files: &mut RealFiles<HostRuntime>,
+        line: &str,
+        into: &mut Bytes,
+    ) -> Result<(), case_lines::Fault> {
+        let (case, asked) = line.split_once('?').unwrap_or((line, ""));
+        into.append(case.as_bytes())?;
+        into.push(b':')?;
+        match told_line(alloc, case) {
+            Ok(told) => add_values(alloc, &told, asked, into)?,
+            Err(fault) => add_fault(fault, into)?,
         }
-    }
-    Ok(())
-}
-
-// Prints in place of the values why there are none.
-fn print_fault(rt: &impl Print, fault: Fault) -> Result<(), Fault> {
-    let Some(word) = fault.word() else {
-        return Err(fault);
-    };
-    match print!(rt; " {word}") {
-        Ok(()) => Ok(()),
-        Err(_) => Err(Fault::Broken),
+        Ok(())
     }
 }
 
@@ -71,50 +50,27 @@ fn told_line(alloc: Global, case: &str) -> Result<Told, Fault> {
     case_told(alloc, words.as_slice())
 }
 
-// Carries out the case of a line, and prints the line and what it asks for. A line that begins with '#' and an
-// empty one are passed over. What is asked for stands behind a '?'.
-fn carry_out(rt: &impl Print, alloc: Global, line: &str) -> Result<(), Fault> {
-    if line.is_empty() || line.starts_with('#') {
-        return Ok(());
-    }
-    let (case, asked) = line.split_once('?').unwrap_or((line, ""));
-    if print!(rt; "{case}:").is_err() {
-        return Err(Fault::Broken);
-    }
-    match told_line(alloc, case) {
-        Ok(told) => print_values(rt, &told, asked)?,
-        Err(fault) => print_fault(rt, fault)?,
-    }
-    match println!(rt; "") {
-        Ok(()) => Ok(()),
-        Err(_) => Err(Fault::Broken),
-    }
-}
-
-// Carries out all lines of a text.
-fn carry_out_all(rt: &impl Print, alloc: Global, text: &[u8]) -> Result<(), Fault> {
-    let Ok(text) = str::from_utf8(text) else {
-        return Err(Fault::Broken);
-    };
-    for line in text.lines() {
-        carry_out(rt, alloc, line)?;
+// Adds what is told where a word asks for it.
+fn add_values(alloc: Global, told: &Told, asked: &str, into: &mut Bytes) -> Result<(), AllocError> {
+    for word in asked.split_whitespace() {
+        let shown = match told.value(word) {
+            Some(value) => format!(in alloc; " {word} {value}")?,
+            None => format!(in alloc; " {word} unreadable")?,
+        };
+        into.append(shown.as_bytes())?;
     }
     Ok(())
 }
 
+// Adds in place of the values why there are none.
+fn add_fault(fault: Fault, into: &mut Bytes) -> Result<(), AllocError> {
+    let Some(word) = fault.word() else {
+        return Err(AllocError);
+    };
+    into.push(b' ')?;
+    into.append(word.as_bytes())
+}
+
 fn main(rt: HostRuntime) -> ExitCode {
-    let alloc = rt.alloc();
-    let name = match name_of(alloc, &rt) {
-        Ok(name) => name,
-        Err(_) => return ExitCode::from(2),
-    };
-    let mut files = RealFiles::new(rt);
-    let Ok(text) = read_whole(alloc, &mut files, name.as_str(), MOST) else {
-        return ExitCode::from(2);
-    };
-    match carry_out_all(&rt, alloc, text.as_slice()) {
-        Ok(()) => ExitCode::from(0),
-        Err(Fault::NoMemory) => ExitCode::from(3),
-        Err(_) => ExitCode::from(1),
-    }
+    carry_out(rt, Asked)
 }

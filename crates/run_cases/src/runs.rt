@@ -80,42 +80,66 @@ fn sink_of(alloc: Global, failing: Option<u64>) -> Result<MemSink, Fault> {
     Ok(sink)
 }
 
-// How a run ended, and what it put.
+// What a run is given.
 #[derive(Drop)]
-struct RunEnd {
-    status: u64,
+struct Given {
+    words: Vec<String>,
+    files: MemFiles,
+}
+
+fn given_of(alloc: Global, case: &Case<'_>, failing: Failing) -> Result<Given, Fault> {
+    let words = owned_words(alloc, case.words)?;
+    let files = files_of(alloc, &case.texts, failing)?;
+    Ok(Given { words, files })
+}
+
+// The output and the error output.
+#[derive(Drop)]
+struct Sinks {
     out: MemSink,
     err: MemSink,
 }
 
-fn end_of_run(alloc: Global, case: &Case<'_>, failing: Failing) -> Result<RunEnd, Fault> {
+fn sinks_of(alloc: Global, failing: Failing) -> Result<Sinks, Fault> {
     let (out_fails, err_fails) = match failing {
         Failing::Out(call) => (Some(call), None),
         Failing::Err(call) => (None, Some(call)),
         _ => (None, None),
     };
-    let mut out = sink_of(alloc, out_fails)?;
-    let mut err = sink_of(alloc, err_fails)?;
-    let words = owned_words(alloc, case.words)?;
-    let files = files_of(alloc, &case.texts, failing)?;
-    let ran = run(alloc, words.as_slice(), files, &mut out, &mut err);
-    Ok(RunEnd {
-        status: ran.status as u64,
-        out,
-        err,
-    })
+    let out = sink_of(alloc, out_fails)?;
+    let err = sink_of(alloc, err_fails)?;
+    Ok(Sinks { out, err })
+}
+
+// The status of a run.
+fn status_of(alloc: Global, given: Given, sinks: &mut Sinks) -> u64 {
+    let Given { words, files } = given;
+    let Sinks { out, err } = sinks;
+    let ran = run(alloc, words.as_slice(), files, out, err);
+    ran.status as u64
+}
+
+fn add_ended(
+    alloc: Global,
+    status: u64,
+    sinks: &Sinks,
+    into: &mut Bytes,
+) -> Result<(), AllocError> {
+    into.append(b": status ")?;
+    add_number(alloc, status, into)?;
+    into.append(b" out ")?;
+    add_shown(sinks.out.bytes(), into)?;
+    into.append(b" err ")?;
+    add_shown(sinks.err.bytes(), into)
 }
 
 /// Adds the name of a case, the status of its run, and what was put on the output and on the error output.
 pub fn add_run(alloc: Global, case: &Case<'_>, into: &mut Bytes) -> Result<(), Fault> {
     let failing = failing_of(alloc, case.failing)?;
-    let ended = end_of_run(alloc, case, failing)?;
+    let mut sinks = sinks_of(alloc, failing)?;
+    let given = given_of(alloc, case, failing)?;
+    let status = status_of(alloc, given, &mut sinks);
     into.append(case.name.as_bytes())?;
-    into.append(b": status ")?;
-    add_number(alloc, ended.status, into)?;
-    into.append(b" out ")?;
-    add_shown(ended.out.bytes(), into)?;
-    into.append(b" err ")?;
-    add_shown(ended.err.bytes(), into)?;
+    add_ended(alloc, status, &sinks, into)?;
     Ok(())
 }

@@ -2,8 +2,9 @@
 
 use crate::faults::Fault;
 use crate::texts::{add_shown, bytes_of, words_of};
+use rx_query::{Item, ItemList};
 use rx_rows::{print_projected, print_row, project};
-use rx_value::{Bytes, NumberList, Row, Value, compare};
+use rx_value::{Bytes, Row, Value, compare};
 use std::alloc::Global;
 use std::cmp::Ordering;
 
@@ -65,18 +66,18 @@ pub fn add_row(alloc: Global, columns: &str, values: &str, into: &mut Bytes) -> 
 }
 
 fn print_columns(alloc: Global, columns: &str, row: &Row, line: &mut Bytes) -> Result<(), Fault> {
-    let numbers = numbers_of(alloc, columns)?;
-    print_projected(&project(numbers.as_slice(), row), line)?;
+    let items = items_of(alloc, columns)?;
+    print_projected(&project(items.as_slice(), row), line)?;
     Ok(())
 }
 
-fn numbers_of(alloc: Global, columns: &str) -> Result<NumberList, Fault> {
-    let mut numbers = NumberList::new(alloc);
+fn items_of(alloc: Global, columns: &str) -> Result<ItemList, Fault> {
+    let mut items = ItemList::new(alloc);
     for word in words_of(alloc, columns)?.as_slice() {
         match word.parse::<u32>() {
-            Ok(number) => numbers.push(number)?,
+            Ok(column) => items.push(Item::Column(column))?,
             Err(_) => return Err(Fault::Unreadable),
         }
     }
-    Ok(numbers)
+    Ok(items)
 }

@@ -1,9 +1,9 @@
-use crate::faults::Fault;
 use crate::inputs::inputs;
 use crate::rows::{counted, rows};
 use crate::schemas::{canonical_schema, schema};
 use crate::statements::{canonical_statement, sizes, statement};
 use crate::texts::bytes_of;
+use case_lines::Fault;
 use std::alloc::Global;
 
 /// What the case of a line says. Its first word is what is asked of the text behind it:
@@ -15,7 +15,7 @@ use std::alloc::Global;
 /// - `inputs`: the line of the refusal of a schema, data and a script with ` | ` between them.
 pub(crate) fn outcome_of(alloc: Global, line: &str) -> Result<Vec<u8>, Fault> {
     let Some((asked, text)) = line.split_once(' ') else {
-        return Err(Fault::Broken);
+        return Err(Fault::Unreadable);
     };
     if asked == "inputs" {
         return inputs(alloc, text);
@@ -31,7 +31,7 @@ pub(crate) fn outcome_of(alloc: Global, line: &str) -> Result<Vec<u8>, Fault> {
         "write" => canonical_schema(alloc, text),
         "rows" => rows(alloc, before.as_bytes(), text),
         "count" => counted(alloc, before.as_bytes(), text),
-        _ => return Err(Fault::Broken),
+        _ => return Err(Fault::Unreadable),
     };
     match outcome {
         Ok(outcome) => Ok(outcome),

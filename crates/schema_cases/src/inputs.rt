@@ -1,5 +1,5 @@
-use crate::faults::Fault;
 use crate::texts::bytes_of;
+use case_lines::Fault;
 use rx_inputs::{FileNames, InputFault, read_inputs};
 use rx_outside::MemFiles;
 use std::alloc::{AllocError, Global};

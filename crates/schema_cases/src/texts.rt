@@ -1,4 +1,5 @@
-use crate::faults::Fault;
+use case_lines::Fault;
+use rx_value::Bytes;
 use std::alloc::{AllocError, Global};
 
 // What the next byte of a text stands for.
@@ -82,13 +83,13 @@ pub(crate) fn bytes_of(alloc: Global, text: &str) -> Result<Vec<u8>, Fault> {
             continue;
         }
         let Some((repeated, behind)) = part.split_once('}') else {
-            return Err(Fault::Broken);
+            return Err(Fault::Unreadable);
         };
         let Some((count, piece)) = repeated.split_once('*') else {
-            return Err(Fault::Broken);
+            return Err(Fault::Unreadable);
         };
         let Ok(count) = count.parse::<u32>() else {
-            return Err(Fault::Broken);
+            return Err(Fault::Unreadable);
         };
         for number in 0..count {
             push_piece(alloc, &mut bytes, piece, Some(number))?;
@@ -101,17 +102,17 @@ pub(crate) fn bytes_of(alloc: Global, text: &str) -> Result<Vec<u8>, Fault> {
 /// Adds bytes in one line that can be read: those from 32 to 126 as they are, and the others as `bytes_of` takes them.
 pub(crate) fn push_printable(
     alloc: Global,
-    into: &mut Vec<u8>,
+    into: &mut Bytes,
     bytes: &[u8],
 ) -> Result<(), AllocError> {
     for byte in bytes {
         let byte = *byte;
         match byte {
-            b'\n' => into.extend_from_slice(b"\\n")?,
-            b'\r' => into.extend_from_slice(b"\\r")?,
-            b'\\' => into.extend_from_slice(b"\\\\")?,
+            b'\n' => into.append(b"\\n")?,
+            b'\r' => into.append(b"\\r")?,
+            b'\\' => into.append(b"\\\\")?,
             32..=126 => into.push(byte)?,
-            _ => into.extend_from_slice(format!(in alloc; "\\x{byte:02x}")?.as_bytes())?,
+            _ => into.append(format!(in alloc; "\\x{byte:02x}")?.as_bytes())?,
         }
     }
     Ok(())

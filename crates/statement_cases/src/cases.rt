@@ -3,6 +3,7 @@
 use crate::conditions::{condition_told, width_told};
 use crate::fronts::{fronts_told, reserved_told, tokens_told};
 use crate::likes::{likeness_told, prefix_told};
+use crate::scripts::script_told;
 use crate::spelling::text_of;
 use crate::truths::{parts_told, truth_told};
 use std::alloc::{AllocError, Global};
@@ -18,6 +19,7 @@ fn one_told(alloc: Global, kind: &str, text: &[u8]) -> Result<Vec<u8>, AllocErro
         "later" => condition_told(alloc, 2, text),
         "width" => width_told(alloc, text),
         "parts" => parts_told(alloc, text),
+        "script" => script_told(alloc, text),
         _ => Vec::from_slice(alloc, b" unreadable"),
     }
 }
