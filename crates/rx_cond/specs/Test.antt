@@ -1,21 +1,18 @@
 -- Single tests over values that may be NULL.
-use Rattle.std.specs.Prelude.{ℕ, Bool, true, false, ◌||◌, if◌then◌else◌, List, map, slice_get, unwrap_or}
+use Rattle.std.specs.Prelude.{ℕ, Bool, true, false, ◌||◌, if◌then◌else◌, List, map}
 use Rattle.std.specs.List.{list_any, zip}
 use Rattle.std.specs.declared.cmp.Ordering.{Ordering}
 use Rattle.std.specs.Ordering.{is_eq, is_lt, is_le, is_gt, is_ge, is_ne}
 use Rattle.rx_value.specs.declared.values.Value.{Value}
 use Rattle.rx_value.specs.declared.values.Value.TheVariants.{Null, Int, Text}
 use Rattle.rx_value.specs.Order.{value_cmp}
+pub use Rattle.rx_value.specs.Keys.{column_value}
 use Rattle.rx_like.specs.Walk.{is_like}
 use Rattle.rx_cond.specs.declared.conds.Tri.{Tri}
 use Rattle.rx_cond.specs.declared.conds.Tri.TheVariants.{T, F, N}
 use Rattle.rx_cond.specs.declared.conds.Op.{Op}
 use Rattle.rx_cond.specs.declared.conds.Op.TheVariants.{Eq, SafeEq, Lt, Le, Gt, Ge, Ne}
 use Rattle.rx_cond.specs.Tri.{tri_of, is_true, all_of, any_of}
-
--- the value of a column at a row, NULL where the row lacks it
-abbrev pub column_value : ℕ → List Value → Value
-column_value column row = unwrap_or (slice_get row column) Null
 
 abbrev pub is_null_value : Value → Bool
 is_null_value Null = true

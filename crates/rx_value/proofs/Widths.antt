@@ -1,5 +1,5 @@
 -- The widths of integers are within 1 to 64 bits.
-use Rattle.std.proofs.Common.{◌≡◌, ◌⊎◌, inl, inr, ℕ, ◌≤◌}
+use Rattle.std.proofs.Common.{inl, inr, ℕ, ◌≤◌}
 use Rattle.rx_value.specs.Shape.{HasWidth}
 use native.Mathlib.Omega.{arith}
 

@@ -1,7 +1,9 @@
 pub mod Counting
+pub mod Keys
 pub mod Limits
 pub mod Names
 pub mod Order
+pub mod Parts
 pub mod Range
 pub mod Shape
 pub mod Spans

@@ -1,5 +1,5 @@
 -- What fits a shape, and the limits of shapes.
-use Rattle.std.specs.Prelude.{◌≡◌, ℕ, ◌-◌, ◌^◌, ◌<◌, ◌≤◌, ℤ, pos, ◌+ℤ◌, ◌≤ℤ◌, ◌<ℤ◌, ◌⊎◌, Bool, true, false, not, List, [], ◌∷◌, map, drop, length, Some, filter, All}
+use Rattle.std.specs.Prelude.{◌≡◌, ℕ, ◌-◌, ◌^◌, ◌<◌, ◌≤◌, ℤ, pos, ◌+ℤ◌, ◌≤ℤ◌, ◌<ℤ◌, ◌⊎◌, Bool, true, false, not, List, [], ◌∷◌, map, drop, length, Some, filter, All, IfSome}
 use Rattle.std.specs.List.{IsDistinct}
 use Rattle.std.specs.Prelude.{nat_eq, slice_get}
 use Rattle.std.specs.Str.{IsUtf8, chars}
@@ -9,6 +9,7 @@ use Rattle.rx_value.specs.declared.values.Value.TheVariants.{Null, Int, Text}
 use Rattle.rx_value.specs.declared.shapes.ColType.{ColType}
 use Rattle.rx_value.specs.declared.shapes.ColType.TheVariants.{Whole, VarChar}
 use Rattle.rx_value.specs.declared.shapes.Column.{Column}
+use Rattle.rx_value.specs.declared.shapes.Part.{Part}
 use Rattle.rx_value.specs.declared.shapes.Index.{Index}
 use Rattle.rx_value.specs.declared.shapes.Schema.{Schema}
 
@@ -56,12 +57,26 @@ columns_of index = map (λ p. p.column) index.parts
 abbrev pub IsNotNull : List Column → ℕ → Type 0
 IsNotNull columns c = (column : Column) × (slice_get columns c ≡ Some column) × (column.nullable ≡ false)
 
--- an index has at least one part and no more than the limit, on columns that are there, none twice; a primary one is unique and never NULL
+-- a type of texts that may have more characters than n, which isn't 0
+abbrev pub IsLongText : ℕ → ColType → Type 0
+IsLongText n (Whole bits signed) = ⊥
+IsLongText n (VarChar count) = (0 < n) × (n < count)
+
+-- a column is there and holds texts of more characters than a prefix length, which isn't 0
+abbrev pub IsTextOver : List Column → ℕ → ℕ → Type 0
+IsTextOver columns c n = (column : Column) × (slice_get columns c ≡ Some column) × IsLongText n column.kind
+
+-- where a part has a prefix length, its column holds texts that may be longer
+abbrev pub FitsPrefix : List Column → Part → Type 0
+FitsPrefix columns part = IfSome part.chars (IsTextOver columns part.column)
+
+-- an index has at least one part and no more than the limit, on columns that are there, none twice, its prefix lengths shorter than their columns' texts; a primary one is unique and never NULL
 pub record FitsIndex (columns : List Column) (index : Index) : Type 0 where
   pub some : 0 < length index.parts
   pub few : length index.parts ≤ most_parts
   pub there : All (λ c. c < length columns) (columns_of index)
   pub distinct : IsDistinct nat_eq (columns_of index)
+  pub prefixes : All (FitsPrefix columns) index.parts
   pub unique : index.primary ≡ true → index.unique ≡ true
   pub not_null : index.primary ≡ true → All (IsNotNull columns) (columns_of index)
 

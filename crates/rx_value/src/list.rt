@@ -1,4 +1,4 @@
-ghost use Rattle.std.specs.Prelude.{◌≡◌, [], ◌∷◌, ◌++◌, IfOk, OnOk, OnErr, length};
+ghost use Rattle.std.specs.Prelude.{◌≡◌, [], ◌∷◌, ◌++◌, IfOk, OnOk, OnErr, IfSome, IfNone, length};
 
 use crate::bytes::Bytes;
 use crate::copies::Copied;
@@ -48,6 +48,13 @@ impl<T> List<T> {
         List { items }
     }
 
+    /// The items as a vector. Takes no memory.
+    pub fn into_vec(self) -> Vec<T>
+        ensures { result.items ≡ self }
+    {
+        self.items
+    }
+
     /// Adds an item at the end. A refused call leaves the list, and drops the item.
     pub fn push(&mut self, item: T) -> Result<(), AllocError>
     where
@@ -57,6 +64,15 @@ impl<T> List<T> {
     {
         self.items.push(item)?;
         Ok(())
+    }
+
+    /// Takes out the last item.
+    pub fn pop(&mut self) -> Option<T>
+        ensures some { IfSome result (λ last. self.old ≡ self.new ++ last ∷ []) }
+        ensures none { IfNone result (self.old ≡ []) }
+        ensures empty { IfNone result (self.new ≡ []) }
+    {
+        self.items.pop()
     }
 
     /// The items in order.

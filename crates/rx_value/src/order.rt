@@ -90,7 +90,7 @@ pub fn is_at_most(a: &End, b: &End) -> bool
     }
 }
 
-fn compare_sides(a: Side, b: Side) -> Ordering
+pub(crate) fn compare_sides(a: Side, b: Side) -> Ordering
     ensures { result ≡ side_cmp a b }
 {
     match (a, b) {
