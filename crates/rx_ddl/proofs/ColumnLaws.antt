@@ -1,11 +1,10 @@
 -- Columns: what is read is spelled, and what is spelled is read.
-use Rattle.std.proofs.Common.{◌≡◌, ℕ, true, false, Bool, cond, List, [], ◌∷◌, length, map, Option, Some, None, refl, sym, ap, subst, ◌∙◌, ⊎_elim, codes, arith}
+use Rattle.std.proofs.Common.{◌≡◌, ℕ, false, Bool, cond, List, [], ◌∷◌, length, map, Option, Some, None, refl, sym, ap, subst, ◌∙◌, ⊎_elim, codes, arith}
 use Rattle.std.specs.Option.{option_and_then, option_or}
 use Rattle.std.specs.Str.{str_eq_ignore_ascii_case}
 use Rattle.rx_token.specs.declared.kinds.Token.{Token}
 use Rattle.rx_token.specs.declared.signs.TheConstants.{OPEN, PLUS, MINUS}
-use Rattle.rx_token.specs.Reserved.{is_word_kind, is_word_of}
-use Rattle.rx_reading.specs.Reading.{after_word, after_sign, word_at, name_at, text_at, past, more_at, gathered, is_text_kind, number_in, number_at}
+use Rattle.rx_reading.specs.Reading.{after_word, after_sign, word_at, name_at, text_at, past, more_at, gathered, number_at}
 use Rattle.rx_reading.specs.declared.items.Separator.TheVariants.{Nothing}
 use Rattle.rx_reading.specs.Forms.{◌>>◌, Word, Sign, Name, Text, SpellsEach, AnyWord, Number}
 use Rattle.rx_reading.proofs.Steps.{stepped, then_gives, then_none, one_of, first_gives, second_gives, same_value}

@@ -1,13 +1,13 @@
 -- Items between parentheses: what is read is spelled, and what is spelled is read.
-use Rattle.std.proofs.Common.{◌≡◌, ℕ, true, List, Option, Some, refl, subst}
+use Rattle.std.proofs.Common.{◌≡◌, List, Option, Some, refl, subst}
 use Rattle.std.specs.Option.{option_and_then}
 use Rattle.rx_token.specs.declared.kinds.Token.{Token}
 use Rattle.rx_token.specs.declared.signs.TheConstants.{OPEN, CLOSE, COMMA}
-use Rattle.rx_reading.specs.Reading.{Reader, after_sign, is_sign_kind, items_at, enclosed_at}
+use Rattle.rx_reading.specs.Reading.{Reader, after_sign, items_at, enclosed_at}
 use Rattle.rx_reading.specs.Forms.{Form, ◌>>◌, Sign, Listed, values, SpellsListed, SpellsEnclosed}
 use Rattle.rx_reading.proofs.Steps.{stepped, then_gives, same_value}
 use Rattle.rx_reading.proofs.Spelled.{sign_spelled, sign_read, Read, items_spelled}
-use Rattle.rx_reading.proofs.Each.{Shrinks, Within, one_shrinks, shrinks_within, then_within, listed_shrinks, list_read}
+use Rattle.rx_reading.proofs.Each.{Shrinks, Within, shrinks_within, then_within, listed_shrinks, list_read}
 use Rattle.rx_reading.proofs.FirstTokens.{sign_shrinks, Ends, comma_ends, close_ends, close_no_comma, pair}
 
 module _ {D A : Type 0} (p : Reader A) (item : D → Form) (value : D → A) where

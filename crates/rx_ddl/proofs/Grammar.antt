@@ -1,5 +1,5 @@
 -- What the grammar reads of tokens of some forms.
-use Rattle.std.proofs.Common.{◌≡◌, ℕ, zero, suc, ◌<◌, ◌≤◌, true, false, ◌==◌, List, [], ◌∷◌, length, Some, None, refl, ap, ◌∙◌, arith, codes}
+use Rattle.std.proofs.Common.{◌≡◌, ℕ, zero, suc, ◌<◌, ◌≤◌, Bool, true, false, ◌==◌, List, [], ◌∷◌, length, Option, Some, None, refl, ap, ◌∙◌, arith, codes}
 use Rattle.std.specs.List.{list_any}
 use Rattle.std.specs.Option.{option_and_then}
 use Rattle.rx_token.specs.declared.kinds.Token.{Token}
@@ -7,7 +7,7 @@ use Rattle.rx_token.specs.declared.kinds.TokenKind.{TokenKind}
 use Rattle.rx_token.specs.declared.kinds.TokenKind.TheVariants.{Word, Quoted, Number, Sign}
 use Rattle.rx_token.specs.declared.signs.TheConstants.{OPEN, CLOSE, COMMA}
 use Rattle.rx_token.specs.Reserved.{is_word_of}
-use Rattle.rx_reading.specs.Reading.{Reader, after_sign, more_at, items_at, enclosed_at}
+use Rattle.rx_reading.specs.Reading.{Reader, after_sign, direction_at, more_at, items_at, enclosed_at}
 use Rattle.rx_ddl.specs.declared.statements.Argument.{Argument}
 use Rattle.rx_ddl.specs.declared.statements.Argument.TheVariants.{Number as Count}
 use Rattle.rx_ddl.specs.declared.statements.Attribute.{Attribute}
@@ -21,7 +21,7 @@ use Rattle.rx_ddl.specs.declared.statements.KeyDefinition.{KeyDefinition}
 use Rattle.rx_ddl.specs.declared.statements.CreateDefinition.{CreateDefinition}
 use Rattle.rx_ddl.specs.declared.statements.CreateDefinition.TheVariants.{Column, Key}
 use Rattle.rx_ddl.specs.Columns.{arguments_at, marked_at, attribute_at, attributes_at, column_at}
-use Rattle.rx_ddl.specs.Keys.{part_at, methods_at, key_kind_at, key_name_at, key_at}
+use Rattle.rx_ddl.specs.Keys.{prefix_at, part_at, methods_at, key_kind_at, key_name_at, key_at}
 use Rattle.rx_ddl.specs.Create.{definition_at, is_column, create_at}
 use Rattle.rx_ddl.proofs.Scanning.{Front}
 
@@ -256,23 +256,89 @@ column_given name kind arguments marks P ts front =
       behind = mark.behind;
     }
 
--- a part of a key that is a name alone
-abbrev pub part_of : List ℕ → KeyPart
-part_of name = record { column = name; prefix = None; descending = false }
+-- a direction is read at the front, where no parenthesis opens
+pub record Directed (descending : Bool) (P : List Token → Type 0) (ts : List Token) : Type 0 where
+  pub others : List Token
+  pub unopened : after_sign OPEN ts ≡ None
+  pub read : direction_at ts ≡ (descending, others)
+  pub within : length others ≤ length ts
+  pub behind : P others
 
-part_read : (name text : List ℕ) (n a b c d : ℕ) (ts : List Token) → (n == OPEN) ≡ false → part_at (tok Quoted name a b ∷ tok (Sign n) text c d ∷ ts) ≡ Some (part_of name, tok (Sign n) text c d ∷ ts)
-unfolding part_at is_word_of
-part_read name text n a b c d ts closed = rw closed refl
+rising_read : (n a b : ℕ) (text : List ℕ) (ts : List Token) → direction_at (tok (Sign n) text a b ∷ ts) ≡ (false, tok (Sign n) text a b ∷ ts)
+unfolding is_word_of
+rising_read n a b text ts = refl
 
-pub part_given : (name : List ℕ) (P : List Token → Type 0) (ts : List Token) → Front Quoted name (Before P) ts → Gives part_at (part_of name) (Before P) ts
-part_given name P ts front =
-    let end = front.behind in
+falling_read : (a b : ℕ) (ts : List Token) → direction_at (tok Word (codes "DESC") a b ∷ ts) ≡ (true, ts)
+unfolding is_word_of
+falling_read a b ts = refl
+
+pub rising : (P : List Token → Type 0) (ts : List Token) → Before P ts → Directed false (Before P) ts
+rising P ts end = record {
+  others = ts;
+  unopened = rw end.is (unopened_at end.sign end.start end.stop end.text end.others end.closed);
+  read = rw end.is (rising_read end.sign end.start end.stop end.text end.others);
+  within = omega arith;
+  behind = end;
+}
+
+pub falling : (P : List Token → Type 0) (ts : List Token) → Front Word (codes "DESC") P ts → Directed true P ts
+falling P ts front =
     let count : length ts ≡ suc (length front.others) = ap length front.is in
     record {
       others = front.others;
-      read = rw (front.is, end.is) (part_read name end.text end.sign front.start front.stop end.start end.stop end.others end.closed);
+      unopened = rw front.is refl;
+      read = rw front.is (falling_read front.start front.stop front.others);
+      within = omega arith;
+      behind = front.behind;
+    }
+
+-- a prefix length is read at the front, and a direction behind it
+pub record Prefixed (prefix : Option ℕ) (descending : Bool) (P : List Token → Type 0) (ts : List Token) : Type 0 where
+  pub others : List Token
+  pub read : prefix_at ts ≡ Some (prefix, others)
+  pub within : length others ≤ length ts
+  pub behind : Directed descending P others
+
+pub no_prefix : (descending : Bool) (P : List Token → Type 0) (ts : List Token) → Directed descending P ts → Prefixed None descending P ts
+no_prefix descending P ts given = record { others = ts; read = rw given.unopened refl; within = omega arith; behind = given }
+
+prefix_read : (n a b c d e f : ℕ) (digits : List ℕ) (ts : List Token) → prefix_at (tok (Sign OPEN) (40 ∷ []) a b ∷ tok (Number n) digits c d ∷ tok (Sign CLOSE) (41 ∷ []) e f ∷ ts) ≡ Some (Some n, ts)
+prefix_read n a b c d e f digits ts = refl
+
+pub some_prefix : (n : ℕ) (digits : List ℕ) (descending : Bool) (P : List Token → Type 0) (ts : List Token) → Front (Sign OPEN) (40 ∷ []) (Front (Number n) digits (Front (Sign CLOSE) (41 ∷ []) (Directed descending P))) ts → Prefixed (Some n) descending P ts
+some_prefix n digits descending P ts front =
+    let count = front.behind in
+    let close = count.behind in
+    let first : length ts ≡ suc (length front.others) = ap length front.is in
+    let second : length front.others ≡ suc (length count.others) = ap length count.is in
+    let third : length count.others ≡ suc (length close.others) = ap length close.is in
+    record {
+      others = close.others;
+      read = rw (front.is, count.is, close.is) (prefix_read n front.start front.stop count.start count.stop close.start close.stop digits close.others);
+      within = omega arith;
+      behind = close.behind;
+    }
+
+-- a part of a key
+abbrev part_of : List ℕ → Option ℕ → Bool → KeyPart
+part_of name prefix descending = record { column = name; prefix = prefix; descending = descending }
+
+part_read : (name : List ℕ) (prefix : Option ℕ) (descending : Bool) (a b : ℕ) (ts us vs : List Token) → prefix_at ts ≡ Some (prefix, us) → direction_at us ≡ (descending, vs) → part_at (tok Quoted name a b ∷ ts) ≡ Some (part_of name prefix descending, vs)
+unfolding part_at
+part_read name prefix descending a b ts us vs first second = rw (first, second) refl
+
+pub part_given : (part : KeyPart) (P : List Token → Type 0) (ts : List Token) → Front Quoted part.column (Prefixed part.prefix part.descending P) ts → Gives part_at part P ts
+part_given part P ts front =
+    let prefix = front.behind in
+    let direction = prefix.behind in
+    let first : length ts ≡ suc (length front.others) = ap length front.is in
+    let second = prefix.within in
+    let third = direction.within in
+    record {
+      others = direction.others;
+      read = rw front.is (part_read part.column part.prefix part.descending front.start front.stop front.others prefix.others direction.others prefix.read direction.read);
       shorter = omega arith;
-      behind = end;
+      behind = direction.behind;
     }
 
 parts_read : (parts : List KeyPart) (a b c d : ℕ) (ts us vs : List Token) → items_at (after_sign COMMA) part_at ts ≡ Some (parts, us) → us ≡ tok (Sign CLOSE) (41 ∷ []) c d ∷ vs → enclosed_at part_at (tok (Sign OPEN) (40 ∷ []) a b ∷ ts) ≡ Some (parts, vs)

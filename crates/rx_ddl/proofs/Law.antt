@@ -1,5 +1,6 @@
 -- The canonical text of a statement is read as the statement.
-use Rattle.std.proofs.Common.{◌≡◌, ℕ, ◌≤◌, Bool, true, false, List, [], ◌∷◌, ◌++◌, length, Option, Some, None, refl, sym, ap, subst, ◌∙◌, arith, codes, append_assoc}
+use Rattle.std.proofs.Common.{◌≡◌, ℕ, ◌<◌, ◌≤◌, ◌^◌, Bool, true, false, List, [], ◌∷◌, ◌++◌, length, Option, Some, None, refl, sym, ap, subst, ◌∙◌, arith, codes, append_assoc}
+use Rattle.std.specs.Prelude.{IfSome}
 use Rattle.std.specs.List.{All, list_any, flat_map}
 use Rattle.std.specs.Fmt.{decimal}
 use Rattle.std.proofs.lemmas.List.{append-nil}
@@ -27,9 +28,9 @@ use Rattle.rx_ddl.specs.declared.statements.CreateTable.{CreateTable}
 use Rattle.rx_ddl.specs.declared.statements.TableOption.{TableOption}
 use Rattle.rx_ddl.specs.Keys.{part_at}
 use Rattle.rx_ddl.specs.Create.{definition_at, is_column, create_at, create_form}
-use Rattle.rx_ddl.specs.Canonical.{quoted, parted, arguments_text, attribute_text, column_text, key_front, part_text, key_text, definition_text, canonical, IsName, IsTypeWord, is_tinyint, is_smallint, is_mediumint, is_int, is_bigint, is_varchar, IsWidth, IsMarks, IsCanonicalColumn, IsKeyName, IsCanonicalPart, IsCanonicalKey, IsCanonicalDefinition, IsCanonical}
+use Rattle.rx_ddl.specs.Canonical.{quoted, parted, arguments_text, attribute_text, column_text, key_front, prefix_text, direction_text, part_text, key_text, definition_text, canonical, IsName, IsTypeWord, is_tinyint, is_smallint, is_mediumint, is_int, is_bigint, is_varchar, IsWidth, IsMarks, IsCanonicalColumn, IsKeyName, IsCanonicalPart, IsCanonicalKey, IsCanonicalDefinition, IsCanonical}
 use Rattle.rx_ddl.proofs.Scanning.{Reads, Front, Edge, IsWordText, reads_so, space, line, no_bytes, sign, is_open, is_close, is_comma, word, name, number}
-use Rattle.rx_ddl.proofs.Grammar.{Gives, Before, More, no_more, one_more, listed, Marks, no_marks, unsigned_mark, not_null_mark, both_marks, Widths, no_width, one_width, column_given, part_of, part_given, parts_given, key_of, primary_given, unique_given, plain_given, is_empty_list, statement_given}
+use Rattle.rx_ddl.proofs.Grammar.{Gives, Before, More, no_more, one_more, listed, Marks, no_marks, unsigned_mark, not_null_mark, both_marks, Widths, no_width, one_width, column_given, Directed, rising, falling, Prefixed, no_prefix, some_prefix, part_given, parts_given, key_of, primary_given, unique_given, plain_given, is_empty_list, statement_given}
 
 -- the words of the grammar and of the types
 word_unsigned : IsWordText (codes "unsigned")
@@ -43,6 +44,10 @@ word_not = (refl, refl, omega arith, λ rest. refl)
 word_null : IsWordText (codes "NULL")
 unfolding blank_at
 word_null = (refl, refl, omega arith, λ rest. refl)
+
+word_desc : IsWordText (codes "DESC")
+unfolding blank_at
+word_desc = (refl, refl, omega arith, λ rest. refl)
 
 word_primary : IsWordText (codes "PRIMARY")
 unfolding blank_at
@@ -206,14 +211,46 @@ comma_alone rest P read = (at_comma rest, sign 2 44 rest P is_comma read)
 comma_line : ReadsComma (codes ",\n")
 comma_line rest P read = (at_comma (10 ∷ rest), sign 2 44 (10 ∷ rest) P is_comma (line rest P read))
 
+-- what is read of a direction, and the edge that it begins with
+record ReadDirection (descending : Bool) (P : List Token → Type 0) (bytes : List ℕ) : Type 0 where
+  edge : Edge bytes
+  reads : Reads bytes (Directed descending (Before P))
+
+direction_reads : (descending : Bool) (rest : List ℕ) (P : List Token → Type 0) → Edge rest → Reads rest (Before P) → ReadDirection descending P (direction_text descending ++ rest)
+direction_reads false rest P edge read = record { edge = edge; reads = reads_so rest _ (Directed false (Before P)) (rising P) read }
+direction_reads true rest P edge read = record {
+  edge = at_space _;
+  reads = space _ _ (reads_so _ (Front Word (codes "DESC") (Before P)) (Directed true (Before P)) (falling (Before P)) (word (codes "DESC") rest (Before P) word_desc edge read));
+}
+
+-- what is read of a prefix length and a direction, and the edge that they begin with
+record ReadPrefix (prefix : Option ℕ) (descending : Bool) (P : List Token → Type 0) (bytes : List ℕ) : Type 0 where
+  edge : Edge bytes
+  reads : Reads bytes (Prefixed prefix descending (Before P))
+
+prefix_behind : (n : ℕ) (rest : List ℕ) → prefix_text (Some n) ++ rest ≡ 40 ∷ decimal n ++ 41 ∷ rest
+prefix_behind n rest = ap (λ (xs : List ℕ). 40 ∷ xs) (append_assoc (decimal n) (41 ∷ []) rest)
+
+prefix_reads : (prefix : Option ℕ) (descending : Bool) (rest : List ℕ) (P : List Token → Type 0) → IfSome prefix (λ n. n < 2 ^ 127) → ReadDirection descending P rest → ReadPrefix prefix descending P (prefix_text prefix ++ rest)
+prefix_reads None descending rest P is read = record { edge = read.edge; reads = reads_so rest _ (Prefixed None descending (Before P)) (no_prefix descending (Before P)) read.reads }
+prefix_reads (Some n) descending rest P is read =
+    let closed : Reads (41 ∷ rest) (Front (Sign CLOSE) (41 ∷ []) (Directed descending (Before P))) = sign 1 41 rest _ is_close read.reads in
+    let counted : Reads (decimal n ++ 41 ∷ rest) (Front (Number n) (decimal n) (Front (Sign CLOSE) (41 ∷ []) (Directed descending (Before P)))) = number n rest _ is closed in
+    let opened : Reads (40 ∷ decimal n ++ 41 ∷ rest) (Front (Sign OPEN) (40 ∷ []) (Front (Number n) (decimal n) (Front (Sign CLOSE) (41 ∷ []) (Directed descending (Before P))))) = sign 0 40 (decimal n ++ 41 ∷ rest) _ is_open counted in
+    subst (ReadPrefix (Some n) descending P) (sym (prefix_behind n rest)) (record { edge = at_open _; reads = reads_so _ _ (Prefixed (Some n) descending (Before P)) (some_prefix n (decimal n) descending (Before P)) opened })
+
 -- a part of a key, before an edge
-same_part : (column : List ℕ) (prefix : Option ℕ) (descending : Bool) → prefix ≡ None → descending ≡ false → ◌≡◌ {A = KeyPart} (part_of column) (record { column = column; prefix = prefix; descending = descending })
-same_part column prefix descending none rising = rw (none, rising) refl
+part_behind : (a b c rest : List ℕ) → a ++ b ++ c ++ rest ≡ a ++ (b ++ (c ++ rest))
+part_behind a b c rest = rw (append_assoc a b c, append_assoc a (b ++ c) rest, append_assoc b c rest) refl
 
 part_reads : ReadsItem part_at part_text IsCanonicalPart
 part_reads part rest P is edge read =
-    let given : Reads (quoted part.column ++ rest) (Gives part_at (part_of part.column) (Before P)) = reads_so _ _ _ (part_given part.column P) (name part.column rest (Before P) is.column edge read) in
-    subst (λ (p : KeyPart). Reads (quoted part.column ++ rest) (Gives part_at p (Before P))) (same_part part.column part.prefix part.descending is.prefix is.rising) given
+    let direction = direction_reads part.descending rest P edge read in
+    let prefix = prefix_reads part.prefix part.descending (direction_text part.descending ++ rest) P is.prefix direction in
+    let behind : List ℕ = prefix_text part.prefix ++ (direction_text part.descending ++ rest) in
+    let named : Reads (quoted part.column ++ behind) (Front Quoted part.column (Prefixed part.prefix part.descending (Before P))) = name part.column behind _ is.column prefix.edge prefix.reads in
+    subst (λ (xs : List ℕ). Reads xs (Gives part_at part (Before P))) (sym (part_behind (quoted part.column) (prefix_text part.prefix) (direction_text part.descending) rest))
+    (reads_so _ _ _ (part_given part (Before P)) named)
 
 -- the parts of a key between parentheses
 parts_read : (parts : List KeyPart) (rest : List ℕ) (P : List Token → Type 0) → 1 ≤ length parts → All IsCanonicalPart parts → Reads rest P → Reads (40 ∷ (parted part_text (codes ",") parts ++ 41 ∷ rest)) (Gives (enclosed_at part_at) parts P)

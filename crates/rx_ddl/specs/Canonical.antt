@@ -1,5 +1,5 @@
 -- The canonical text of a CREATE TABLE statement.
-use Rattle.std.specs.Prelude.{◌≡◌, ℕ, ◌<◌, ◌≤◌, ◌^◌, true, false, List, [], ◌∷◌, ◌++◌, length, codes, None, All, ◌==◌, if◌then◌else◌}
+use Rattle.std.specs.Prelude.{◌≡◌, ℕ, ◌<◌, ◌≤◌, ◌^◌, true, false, List, [], ◌∷◌, ◌++◌, length, codes, Bool, Option, Some, None, IfSome, All, ◌==◌, if◌then◌else◌}
 use Rattle.std.specs.List.{list_all, list_any, flat_map}
 use Rattle.std.specs.Fmt.{decimal}
 use Rattle.rx_token.specs.Quotes.{is_name_byte, doubled}
@@ -61,9 +61,19 @@ key_front Primary name = codes "PRIMARY KEY"
 key_front Unique name = codes "UNIQUE KEY " ++ quoted name
 key_front _ name = codes "KEY " ++ quoted name
 
--- a part of a key is the name of its column
+-- a prefix length between parentheses, and nothing where there is none
+abbrev pub prefix_text : Option ℕ → List ℕ
+prefix_text None = []
+prefix_text (Some n) = codes "(" ++ decimal n ++ codes ")"
+
+-- DESC where a part falls
+abbrev pub direction_text : Bool → List ℕ
+direction_text false = []
+direction_text true = codes " DESC"
+
+-- a part of a key: the name of its column, its prefix length, and DESC
 abbrev pub part_text : KeyPart → List ℕ
-part_text part = quoted part.column
+part_text part = quoted part.column ++ prefix_text part.prefix ++ direction_text part.descending
 
 -- a key with its parts
 abbrev pub key_text : KeyDefinition → List ℕ
@@ -123,11 +133,10 @@ IsKeyName Plain name = IsName name
 IsKeyName Fulltext name = ⊥
 IsKeyName Spatial name = ⊥
 
--- a part of a key that is a column alone
+-- a part of a key with a name, and with a prefix length that a token can be
 pub record IsCanonicalPart (part : KeyPart) : Type 0 where
   pub column : IsName part.column
-  pub prefix : part.prefix ≡ None
-  pub rising : part.descending ≡ false
+  pub prefix : IfSome part.prefix (λ n. n < 2 ^ 127)
 
 -- a key that its canonical text says whole
 pub record IsCanonicalKey (key : KeyDefinition) : Type 0 where

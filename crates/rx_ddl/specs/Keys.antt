@@ -1,5 +1,5 @@
 -- Keys as they are declared.
-use Rattle.std.specs.Prelude.{ℕ, Bool, true, false, List, codes, Option, Some, None}
+use Rattle.std.specs.Prelude.{ℕ, List, codes, Option, Some, None}
 use Rattle.std.specs.Option.{option_or}
 use Rattle.rx_token.specs.declared.kinds.Token.{Token}
 use Rattle.rx_token.specs.declared.signs.TheConstants.{OPEN, CLOSE}

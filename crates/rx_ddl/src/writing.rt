@@ -2,7 +2,7 @@ ghost use Rattle.std.specs.Prelude.{◌≡◌, ◌++◌, ◌∷◌, [], codes, S
 ghost use Rattle.std.specs.List.{flat_map};
 ghost use Rattle.rx_ddl.specs.declared.statements.CreateTable.{CreateTable as statement};
 ghost use Rattle.rx_ddl.specs.Create.{create_form};
-ghost use Rattle.rx_ddl.specs.Canonical.{doubled_byte, quoted, parted, argument_text, arguments_text, attribute_text, column_text, key_front, part_text, key_text, definition_text, canonical, IsCanonical};
+ghost use Rattle.rx_ddl.specs.Canonical.{doubled_byte, quoted, parted, argument_text, arguments_text, attribute_text, column_text, key_front, prefix_text, direction_text, part_text, key_text, definition_text, canonical, IsCanonical};
 
 use crate::statements::{
     Argument, Attribute, ColumnDefinition, CreateDefinition, CreateTable, KeyDefinition, KeyKind,
@@ -117,16 +117,42 @@ fn write_key_front(into: &mut Bytes, kind: KeyKind, name: &[u8]) -> Result<(), A
     write_name(into, name)
 }
 
+/// A prefix length between parentheses, where there is one.
+fn write_prefix(into: &mut Bytes, prefix: Option<u128>) -> Result<(), AllocError>
+    ensures { OnOk result (into.new ≡ into.old ++ prefix_text prefix) }
+{
+    let Some(count) = prefix else {
+        return Ok(());
+    };
+    into.push(b'(')?;
+    into.append(Buffer::new().format(count).as_bytes())?;
+    into.push(b')')
+}
+
+fn direction_text(descending: bool) -> &'static [u8]
+    ensures { result.now ≡ direction_text descending }
+{
+    if descending { b" DESC" } else { b"" }
+}
+
+fn write_part(into: &mut Bytes, part: &KeyPart) -> Result<(), AllocError>
+    ensures { OnOk result (into.new ≡ into.old ++ part_text part.now) }
+{
+    write_name(into, part.column.as_slice())?;
+    write_prefix(into, part.prefix)?;
+    into.append(direction_text(part.descending))
+}
+
 fn write_parts(into: &mut Bytes, parts: &[KeyPart]) -> Result<(), AllocError>
     ensures { OnOk result (into.new ≡ into.old ++ parted part_text (codes ",") parts.now) }
 {
     let Some((first, others)) = parts.split_first() else {
         return Ok(());
     };
-    write_name(into, first.column.as_slice())?;
+    write_part(into, first)?;
     for other in others {
         into.push(b',')?;
-        write_name(into, other.column.as_slice())?;
+        write_part(into, other)?;
     }
     Ok(())
 }
@@ -167,9 +193,10 @@ fn write_definitions(into: &mut Bytes, definitions: &[CreateDefinition]) -> Resu
 /// The canonical text of a statement: ``CREATE TABLE `t` (``, then each column and key on a line of its
 /// own with two spaces before and a comma behind all but the last, then `)`, each line ended by a line
 /// feed. A column is its name, its type as it stands with numbers as arguments, and ` unsigned` and
-/// ` NOT NULL` where they stand; a key is its kind, its name and the names of its columns. Names stand
-/// between backquotes, doubled inside. Of a statement that `reads_what_is_written` speaks of this is all;
-/// other attributes and arguments, FULLTEXT, SPATIAL, prefix lengths, DESC, USING and options are left out.
+/// ` NOT NULL` where they stand; a key is its kind, its name and its parts, each the name of its column with
+/// `(n)` behind it where a prefix length stands, and then ` DESC` where that does. Names stand between
+/// backquotes, doubled inside. Of a statement that `reads_what_is_written` speaks of this is all; other
+/// attributes and arguments, FULLTEXT, SPATIAL, USING and options are left out.
 ///
 /// The error is want of memory.
 #[tactic(auto, unfolding(crate::specs::Canonical::canonical))]

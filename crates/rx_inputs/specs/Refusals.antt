@@ -5,7 +5,7 @@ use Rattle.std.specs.Fmt.{decimal}
 use Rattle.rx_value.specs.declared.shapes.Column.{Column}
 use Rattle.rx_value.specs.declared.shapes.Schema.{Schema as TheSchema}
 use Rattle.rx_schema.specs.declared.faults.Which.{Which}
-use Rattle.rx_schema.specs.declared.faults.Which.TheVariants.{ColumnType, Length, Zerofill, Collation, CharacterSet, KeyKind, Prefix, Descending}
+use Rattle.rx_schema.specs.declared.faults.Which.TheVariants.{ColumnType, Length, Zerofill, Collation, CharacterSet, KeyKind, Prefix}
 use Rattle.rx_schema.specs.declared.faults.Many.{Many}
 use Rattle.rx_schema.specs.declared.faults.Many.TheVariants.{Columns, Indexes, Parts}
 use Rattle.rx_schema.specs.declared.faults.SchemaFault.{SchemaFault}
@@ -50,7 +50,6 @@ which_text Collation = codes "collation"
 which_text CharacterSet = codes "character set"
 which_text KeyKind = codes "key kind"
 which_text Prefix = codes "prefix"
-which_text Descending = codes "descending"
 
 -- how a refusal calls what there is too much of
 abbrev pub many_text : Many → List ℕ

@@ -50,7 +50,6 @@ fn which_text(which: Which) -> &'static [u8]
         Which::CharacterSet => b"character set",
         Which::KeyKind => b"key kind",
         Which::Prefix => b"prefix",
-        Which::Descending => b"descending",
     }
 }
 

@@ -1,30 +1,36 @@
 -- The statement of a schema that is read is refused nowhere.
 use Rattle.std.proofs.Common.{◌≡◌, ℕ, ◌<◌, ◌≤◌, Bool, true, false, cond, not, List, [], ◌∷◌, ◌++◌, length, map, drop, codes, Option, Some, None, refl, sym, ap, ◌∙◌}
-use Rattle.std.specs.Prelude.{filter, find, nat_eq, nat_lt}
-use Rattle.std.specs.Option.{option_or}
+use Rattle.std.specs.Prelude.{filter, find, nat_eq, nat_lt, slice_get, IfSome}
+use Rattle.std.specs.Option.{option_or, option_map}
 use Rattle.std.specs.List.{AllByRecursion, list_any, IsDistinct}
 use Rattle.std.proofs.lemmas.Bool.{le-leb, le-ltb, not-true}
 use Rattle.std.proofs.lemmas.List.{length-map}
+use Rattle.std.proofs.lemmas.Option.{slice_get-map}
 use Rattle.rx_value.specs.declared.shapes.ColType.{ColType}
 use Rattle.rx_value.specs.declared.shapes.ColType.TheVariants.{Whole, VarChar}
 use Rattle.rx_value.specs.declared.shapes.Column.{Column}
 use Rattle.rx_value.specs.declared.shapes.Part.{Part}
 use Rattle.rx_value.specs.declared.shapes.Index.{Index}
 use Rattle.rx_value.specs.declared.shapes.Schema.{Schema}
-use Rattle.rx_value.specs.Shape.{HasWidth, IsColType, FitsIndex}
+use Rattle.rx_value.specs.Shape.{HasWidth, IsColType, IsTextOver, FitsPrefix, FitsIndex}
 use Rattle.rx_ddl.specs.declared.statements.ColumnDefinition.{ColumnDefinition}
 use Rattle.rx_ddl.specs.declared.statements.KeyDefinition.{KeyDefinition}
+use Rattle.rx_ddl.specs.declared.statements.Argument.TheVariants.{Number}
+use Rattle.rx_ddl.specs.declared.statements.CreateDefinition.{CreateDefinition}
 use Rattle.rx_ddl.specs.declared.statements.CreateDefinition.TheVariants as of
+use Rattle.rx_schema.specs.declared.faults.Which.TheVariants as no
+use Rattle.rx_schema.specs.declared.types.TypeWord.{TypeWord}
 use Rattle.rx_schema.specs.declared.types.TypeWord.TheVariants as word
 use Rattle.rx_schema.specs.Given.{first_given, columns_in, keys_in}
 use Rattle.rx_schema.specs.Limits.{is_primary_kind, is_primary, is_secondary, has_many_parts, too_many}
 use Rattle.rx_schema.specs.Names.{column_names, part_names, primary_name, index_name, further_keys, index_names, is_among, first_repeated, first_duplicate, is_missing, first_unknown}
-use Rattle.rx_schema.specs.Profile.{type_word, is_zerofill, defaults_of, text_misfit, typed_misfit, column_misfit, kind_misfit, part_misfit, key_misfit, item_misfit, first_misfit}
+use Rattle.rx_schema.specs.Profile.{type_word, characters, column_named, takes_prefix, is_refused, is_zerofill, defaults_of, text_misfit, typed_misfit, column_misfit, kind_misfit, part_misfit, key_misfit, item_misfit, first_misfit}
 use Rattle.rx_schema.specs.Schema.{name_refusal, refusal}
 use Rattle.rx_schema.specs.Tables.{names_of, index_names_of, IsDeclarable}
 use Rattle.rx_schema.specs.Writing.{size_word, kind_word, kind_arguments, sign_marks, null_marks, column_definition, part_definition, key_kind, key_definition, definitions_of, statement_of}
-use Rattle.rx_schema.proofs.Apart.{name_at, places_apart, among_at}
+use Rattle.rx_schema.proofs.Apart.{name_at, places_apart, among_at, number_back}
 use Rattle.rx_schema.proofs.Every.{every_map, every_both, every_of, of_every, every_append, every_any, every_passes, from_all, given_none, pass_none, filter_all, filter_of, filter_every, map_same, map_same_on, map_both}
+use Rattle.rx_schema.proofs.Prefixes.{found_by_number, over_of, within_taken}
 use Rattle.rx_schema.proofs.Repeats.{same, Apart, apart_from, from_apart}
 use Rattle.rx_schema.proofs.Stating.{columns_back, keys_back}
 use Rattle.rx_schema.proofs.Typing.{by_width, IsTypedColumn, typed_columns}
@@ -64,17 +70,54 @@ kind_within true unique = refl
 kind_within false true = refl
 kind_within false false = refl
 
-key_within : (C : List Column) (i : Index) → key_misfit (key_definition C i) ≡ None
+-- the names of the statement are the schema's
+column_name_back : (c : Column) → (column_definition c).name ≡ c.name
+unfolding column_definition
+column_name_back c = refl
+
+pub column_names_back : (s : Schema) → column_names (definitions_of s) ≡ names_of s.columns
+column_names_back s =
+    ap (map (λ c. c.name)) (columns_back s.columns s.columns s.indexes) ∙ map_both column_definition (λ c. c.name) s.columns ∙ map_same (λ c. (column_definition c).name) (λ c. c.name) column_name_back s.columns
+
+pub columns_apart : (s : Schema) → IsDeclarable s → Apart (names_of s.columns)
+columns_apart s is = (apart_from [] (names_of s.columns) is.columns_differ).1
+
+-- a column takes a prefix length that is shorter than its texts
+prefix_taken : (c : Column) (count n : ℕ) → c.kind ≡ VarChar count → 1 ≤ n → n < count → is_refused (Some (column_definition c)) (Some n) ≡ false
+unfolding column_definition
+prefix_taken c count n kind some less =
+    ap (λ (k : ColType). not (takes_prefix (type_word (kind_word k)) (characters (kind_arguments k)) n)) kind ∙ ap (λ (w : TypeWord). not (takes_prefix w (characters (Number count ∷ [])) n)) text_back ∙ within_taken count n some less
+
+prefix_within : (C : List Column) (k : ℕ) (prefix : Option ℕ) → IfSome prefix (IsTextOver C k) → is_refused (option_map column_definition (slice_get C k)) prefix ≡ false
+prefix_within C k None h = refl
+prefix_within C k (Some n) h =
+    let over = over_of C k n h in
+    ap (λ (o : Option Column). is_refused (option_map column_definition o) (Some n)) over.there ∙ prefix_taken over.column over.count n over.kind over.some over.less
+
+part_within : (C : List Column) (columns : List ColumnDefinition) → columns ≡ map column_definition C → map (λ c. c.name) columns ≡ names_of C → Apart (names_of C) → (p : Part) → p.column < length C → FitsPrefix C p → part_misfit columns (part_definition C p) ≡ None
+part_within C columns e names apart p within fits =
+    let found : column_named columns (name_at C p.column) ≡ option_map column_definition (slice_get C p.column) =
+    found_by_number columns (names_of C) (name_at C p.column) names (among_at C p.column within) ∙ ap (slice_get columns) (number_back C p.column apart within) ∙ ap (λ (cs : List ColumnDefinition). slice_get cs p.column) e ∙ slice_get-map column_definition C p.column in
+    ap (λ (b : Bool). cond b (Some no.Prefix) None) (ap (λ (o : Option ColumnDefinition). is_refused o p.chars) found ∙ prefix_within C p.column p.chars fits)
+
+parts_within : (C : List Column) (columns : List ColumnDefinition) → columns ≡ map column_definition C → map (λ c. c.name) columns ≡ names_of C → Apart (names_of C) → (parts : List Part) → AllByRecursion (λ n. n < length C) (map (λ p. p.column) parts) → AllByRecursion (FitsPrefix C) parts → AllByRecursion (λ p. part_misfit columns p ≡ None) (map (part_definition C) parts)
+parts_within C columns e names apart [] there fits = tt
+parts_within C columns e names apart (p ∷ parts) there fits = (part_within C columns e names apart p there.0 fits.0, parts_within C columns e names apart parts there.1 fits.1)
+
+key_within : (C : List Column) (columns : List ColumnDefinition) → columns ≡ map column_definition C → map (λ c. c.name) columns ≡ names_of C → Apart (names_of C) → (i : Index) → FitsIndex C i → key_misfit columns (key_definition C i) ≡ None
 unfolding key_misfit key_definition
-key_within C i = rw (kind_within i.primary i.unique, given_none part_misfit (map (part_definition C) i.parts) (every_of (λ p. part_misfit p ≡ None) (part_definition C) i.parts (every_any _ (λ p. refl) i.parts))) refl
+key_within C columns e names apart i fits =
+    rw (kind_within i.primary i.unique, given_none (part_misfit columns) (map (part_definition C) i.parts) (parts_within C columns e names apart i.parts (from_all _ _ fits.there) (from_all _ _ fits.prefixes))) refl
 
 pub in_profile : (s : Schema) → IsDeclarable s → first_misfit (statement_of s) ≡ None
 unfolding first_misfit statement_of
 in_profile s is =
     let C = s.columns in
-    given_none (item_misfit (defaults_of [])) (definitions_of s) (every_append (λ x. item_misfit (defaults_of []) x ≡ None) (map (λ c. of.Column (column_definition c)) C) (map (λ i. of.Key (key_definition C i)) s.indexes)
-    (every_of (λ x. item_misfit (defaults_of []) x ≡ None) (λ c. of.Column (column_definition c)) C (every_map IsTypedColumn (λ c. column_misfit (defaults_of []) (column_definition c) ≡ None) column_within C (typed_columns s is)))
-    (every_of (λ x. item_misfit (defaults_of []) x ≡ None) (λ i. of.Key (key_definition C i)) s.indexes (every_any _ (key_within C) s.indexes)))
+    let D = columns_in (definitions_of s) in
+    let Fits : CreateDefinition → Type 0 = λ x. item_misfit (defaults_of []) D x ≡ None in
+    given_none (item_misfit (defaults_of []) D) (definitions_of s) (every_append Fits (map (λ c. of.Column (column_definition c)) C) (map (λ i. of.Key (key_definition C i)) s.indexes)
+    (every_of Fits (λ c. of.Column (column_definition c)) C (every_map IsTypedColumn (λ c. column_misfit (defaults_of []) (column_definition c) ≡ None) column_within C (typed_columns s is)))
+    (every_of Fits (λ i. of.Key (key_definition C i)) s.indexes (every_map (FitsIndex C) (λ i. key_misfit D (key_definition C i) ≡ None) (key_within C D (columns_back C C s.indexes) (column_names_back s) (columns_apart s is)) s.indexes (from_all (FitsIndex C) s.indexes is.shape.indexes))))
 
 -- a key is primary where its index is
 pub primary_by : (primary unique : Bool) → is_primary_kind (key_kind primary unique) ≡ primary
@@ -107,15 +150,6 @@ in_limits s is =
     let indexes : nat_lt 64 (length (filter is_secondary (keys_in (definitions_of s)))) ≡ false = ap (λ ks. nat_lt 64 (length (filter is_secondary ks))) (keys_back C C s.indexes) ∙ ap (λ ks. nat_lt 64 (length ks)) (secondary_keys s) ∙ ap (nat_lt 64) (length-map (others s) (key_definition C)) ∙ le-ltb 64 _ is.shape.few_indexes in
     let parts : list_any has_many_parts (keys_in (definitions_of s)) ≡ false = ap (list_any has_many_parts) (keys_back C C s.indexes) ∙ pass_none has_many_parts (own_keys s) (every_of (λ k. has_many_parts k ≡ false) (key_definition C) s.indexes (every_map (FitsIndex C) (λ i. has_many_parts (key_definition C i) ≡ false) (few_parts C) s.indexes (from_all (FitsIndex C) s.indexes is.shape.indexes))) in
     rw (columns, indexes, parts) refl
-
--- the names of the statement are the schema's
-column_name_back : (c : Column) → (column_definition c).name ≡ c.name
-unfolding column_definition
-column_name_back c = refl
-
-pub column_names_back : (s : Schema) → column_names (definitions_of s) ≡ names_of s.columns
-column_names_back s =
-    ap (map (λ c. c.name)) (columns_back s.columns s.columns s.indexes) ∙ map_both column_definition (λ c. c.name) s.columns ∙ map_same (λ c. (column_definition c).name) (λ c. c.name) column_name_back s.columns
 
 none_further : (keys : List KeyDefinition) → AllByRecursion (λ k. is_primary k ≡ false) keys → further_keys keys ≡ keys
 none_further [] h = refl
@@ -180,9 +214,6 @@ parts_known C (p ∷ parts) there = rw (among_at C p.column there.0) (parts_know
 
 key_known : (C : List Column) (i : Index) → FitsIndex C i → find (is_missing (names_of C)) (part_names (key_definition C i)) ≡ None
 key_known C i fits = ap (find (is_missing (names_of C))) (part_names_back C i) ∙ parts_known C i.parts (from_all _ _ fits.there)
-
-pub columns_apart : (s : Schema) → IsDeclarable s → Apart (names_of s.columns)
-columns_apart s is = (apart_from [] (names_of s.columns) is.columns_differ).1
 
 no_duplicate : (s : Schema) → IsDeclarable s → first_duplicate (definitions_of s) ≡ None
 unfolding first_duplicate

@@ -8,7 +8,6 @@ use Rattle.rx_token.specs.declared.kinds.TokenKind.TheVariants.{Word, Quoted, Nu
 use Rattle.rx_token.specs.declared.signs.TheConstants.{COMMA}
 use Rattle.rx_token.specs.Reserved.{is_reserved}
 use Rattle.rx_token.specs.Scan.{token_list}
-use Rattle.rx_reading.specs.Reading.{is_name}
 use Rattle.rx_reading.specs.Forms.{One, Name, Listed, last, before, values, SpellsListed, IndexWord, key, index, SpellsIndexWord}
 use Rattle.rx_reading.specs.Forms as form
 use Rattle.rx_ddl.specs.declared.statements.KeyDefinition.{KeyDefinition}

@@ -1,10 +1,12 @@
 pub mod Accepting
 pub mod Apart
+pub mod ByName
 pub mod Every
 pub mod Fitting
 pub mod Giving
 pub mod Grammar
 pub mod Places
+pub mod Prefixes
 pub mod Repeats
 pub mod Restoring
 pub mod Stating

@@ -38,11 +38,14 @@ found (x ∷ xs) n e =
     (λ f. record { within = omega arith; name = x; there = refl; equal = not-false (same n x) f })
 
 -- the number of a name that is there is its place
+pub number_place : (names : List (List ℕ)) (n : List ℕ) → is_among names n ≡ true → column_number names n ≡ place names n
+number_place names n e =
+    let here = found names n e in
+    ap (λ (b : Bool). unwrap_or (cond b (Some (place names n)) None) 0) (lt-ltb _ _ here.within)
+
 pub numbered : (names : List (List ℕ)) (n : List ℕ) → is_among names n ≡ true → IsPlace names n (column_number names n)
 numbered names n e =
-    let here = found names n e in
-    let count : column_number names n ≡ place names n = ap (λ (b : Bool). unwrap_or (cond b (Some (place names n)) None) 0) (lt-ltb _ _ here.within) in
-    subst (IsPlace names n) (sym count) here
+    subst (IsPlace names n) (sym (number_place names n e)) (found names n e)
 
 some_same : {A : Type 0} (x y : A) (o : Option A) → o ≡ Some x → o ≡ Some y → x ≡ y
 some_same x y o e f = cc

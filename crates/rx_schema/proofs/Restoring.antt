@@ -1,5 +1,5 @@
 -- The statement of a schema that is read declares the schema.
-use Rattle.std.proofs.Common.{◌≡◌, ℕ, zero, suc, ◌<◌, ◌≤◌, Bool, true, false, cond, not, ◌&&◌, List, [], ◌∷◌, ◌++◌, length, map, drop, Option, Some, None, refl, sym, ap, ◌∙◌, inl, inr, arith}
+use Rattle.std.proofs.Common.{◌≡◌, ℕ, zero, suc, ◌<◌, ◌≤◌, Bool, true, false, cond, not, ◌&&◌, List, [], ◌∷◌, ◌++◌, length, map, drop, Option, Some, refl, sym, ap, ◌∙◌, inl, inr, arith}
 use Rattle.std.specs.Prelude.{filter, slice_get, nat_eq, unwrap_or, Ok}
 use Rattle.std.specs.List.{AllByRecursion, list_any}
 use Rattle.std.proofs.lemmas.Bool.{cases_Bool, le-leb, eqb-true, not_from_false}
@@ -9,7 +9,7 @@ use Rattle.rx_value.specs.declared.shapes.Column.{Column}
 use Rattle.rx_value.specs.declared.shapes.Part.{Part}
 use Rattle.rx_value.specs.declared.shapes.Index.{Index}
 use Rattle.rx_value.specs.declared.shapes.Schema.{Schema}
-use Rattle.rx_value.specs.Shape.{IsColType, IsNotNull, FitsIndex}
+use Rattle.rx_value.specs.Shape.{IsColType, IsNotNull, FitsPrefix, FitsIndex}
 use Rattle.rx_ddl.specs.declared.statements.ColumnDefinition.{ColumnDefinition}
 use Rattle.rx_ddl.specs.declared.statements.KeyDefinition.{KeyDefinition}
 use Rattle.rx_ddl.specs.declared.statements.CreateDefinition.{CreateDefinition}
@@ -18,15 +18,16 @@ use Rattle.rx_schema.specs.Limits.{is_primary}
 use Rattle.rx_schema.specs.Names.{part_names, primary_name, index_name, is_among}
 use Rattle.rx_schema.specs.Profile.{type_word, characters, is_unsigned}
 use Rattle.rx_schema.specs.Columns.{may_be_null, is_in_primary, typed, declared_column, declared_columns}
-use Rattle.rx_schema.specs.Indexes.{is_unique_kind, column_number, declared_part, declared_index, is_of, keys_by_number, declared_indexes}
+use Rattle.rx_schema.specs.Indexes.{is_unique_kind, numbered_part, declared_part, declared_index, is_of, keys_by_number, declared_indexes}
 use Rattle.rx_schema.specs.Schema.{declared, schema_of, outcome_of, read_of}
-use Rattle.rx_schema.specs.Tables.{IsWholePart, IsNamedIndex, names_of, IsDeclarable}
+use Rattle.rx_schema.specs.Tables.{IsNamedIndex, names_of, IsDeclarable}
 use Rattle.rx_schema.proofs.Typing.{IsTypedColumn, typed_columns}
 use Rattle.rx_schema.specs.Writing.{kind_word, kind_arguments, sign_marks, null_marks, column_definition, name_of, part_definition, key_kind, key_definition, definitions_of, statement_of, text_of}
-use Rattle.rx_schema.proofs.Accepting.{word_back, text_back, primary_by, key_primary, own_keys, column_names_back, keys_secondary, other_name, names_apart, columns_apart, unrefused}
+use Rattle.rx_schema.proofs.Accepting.{word_back, text_back, primary_by, key_primary, own_keys, keys_secondary, other_name, names_apart, columns_apart, unrefused}
 use Rattle.rx_schema.proofs.Apart.{name_at, places_apart, number_back}
 use Rattle.rx_schema.proofs.Every.{every_map, every_both, every_of, from_all, pass_none, filter_all, filter_none, map_back, by_places}
 use Rattle.rx_schema.proofs.Giving.{read_given}
+use Rattle.rx_schema.proofs.Prefixes.{prefix_kept}
 use Rattle.rx_schema.proofs.Repeats.{same, Apart}
 use Rattle.rx_schema.proofs.Stating.{columns_back, keys_back, statement_canonical}
 
@@ -121,14 +122,14 @@ columns_restored s is =
     ∙ map_back column_definition (declared_column (definitions_of s)) C (every_both IsTypedColumn Free (λ c. declared_column (definitions_of s) (column_definition c) ≡ c) (column_back (definitions_of s)) C (typed_columns s is) (by_places Free C (not_in_primary s is)))
 
 -- a part and an index are read back
-part_same : (p : Part) (n : ℕ) → n ≡ p.column → IsWholePart p → record { column = n; descending = false; chars = None } ≡ p
-part_same p n e is =
-    ap (λ v. record { column = v; descending = false; chars = None }) e ∙ ap (λ v. record { column = p.column; descending = v; chars = None }) (sym is.rising) ∙ ap (λ v. record { column = p.column; descending = p.descending; chars = v }) (sym is.whole)
+part_restored : (C : List Column) → Apart (names_of C) → (p : Part) → p.column < length C → FitsPrefix C p → declared_part C (part_definition C p) ≡ p
+part_restored C apart p within fits =
+    ap (λ (n : ℕ). numbered_part C n (part_definition C p)) (number_back C p.column apart within) ∙ ap (λ v. record { column = p.column; descending = p.descending; chars = v }) (prefix_kept C p.column p.chars fits)
 
-parts_restored : (C : List Column) → Apart (names_of C) → (parts : List Part) → AllByRecursion IsWholePart parts → AllByRecursion (λ n. n < length C) (map (λ p. p.column) parts) → map (declared_part (names_of C)) (map (part_definition C) parts) ≡ parts
-parts_restored C apart [] is there = refl
-parts_restored C apart (p ∷ parts) is there =
-    ap (λ q. q ∷ map (declared_part (names_of C)) (map (part_definition C) parts)) (part_same p (column_number (names_of C) (name_at C p.column)) (number_back C p.column apart there.0) is.0) ∙ ap (λ ps. p ∷ ps) (parts_restored C apart parts is.1 there.1)
+parts_restored : (C : List Column) → Apart (names_of C) → (parts : List Part) → AllByRecursion (FitsPrefix C) parts → AllByRecursion (λ n. n < length C) (map (λ p. p.column) parts) → map (declared_part C) (map (part_definition C) parts) ≡ parts
+parts_restored C apart [] fits there = refl
+parts_restored C apart (p ∷ parts) fits there =
+    ap (λ q. q ∷ map (declared_part C) (map (part_definition C) parts)) (part_restored C apart p there.0 fits.0) ∙ ap (λ ps. p ∷ ps) (parts_restored C apart parts fits.1 there.1)
 
 unique_by : (primary unique : Bool) → (primary ≡ true → unique ≡ true) → is_unique_kind (key_kind primary unique) ≡ unique
 unique_by true unique h = sym (h refl)
@@ -151,10 +152,10 @@ index_name_back C i is apart =
       | inr e ↦ other_name C i e (apart (not_from_false i.primary e))
     ]
 
-index_back : (C : List Column) → Apart (names_of C) → (i : Index) → FitsIndex C i → IsNamedIndex i → (not i.primary ≡ true → same i.name primary_name ≡ false) → declared_index (names_of C) (key_definition C i) ≡ i
+index_back : (C : List Column) → Apart (names_of C) → (i : Index) → FitsIndex C i → IsNamedIndex i → (not i.primary ≡ true → same i.name primary_name ≡ false) → declared_index C (key_definition C i) ≡ i
 unfolding declared_index key_definition
 index_back C apart i fits is other =
-    index_same i (declared_index (names_of C) (key_definition C i)) (index_name_back C i is other) (key_primary C i) (unique_by i.primary i.unique fits.unique) (parts_restored C apart i.parts (from_all _ _ is.parts) (from_all _ _ fits.there))
+    index_same i (declared_index C (key_definition C i)) (index_name_back C i is other) (key_primary C i) (unique_by i.primary i.unique fits.unique) (parts_restored C apart i.parts (from_all _ _ fits.prefixes) (from_all _ _ fits.there))
 
 -- the keys stand in the order of their indexes
 in_order : (C : List Column) (i : Index) (indexes : List Index) → AllByRecursion (λ j. j.primary ≡ false) indexes → filter (is_of true) (key_definition C i ∷ map (key_definition C) indexes) ++ filter (is_of false) (key_definition C i ∷ map (key_definition C) indexes) ≡ key_definition C i ∷ map (key_definition C) indexes
@@ -176,11 +177,11 @@ indexes_restored : (s : Schema) → IsDeclarable s → declared_indexes (definit
 indexes_restored s is =
     let C = s.columns in
     let Other : Index → Type 0 = λ i. not i.primary ≡ true → same i.name primary_name ≡ false in
-    let Named : Index → Type 0 = λ i. Other i → declared_index (names_of C) (key_definition C i) ≡ i in
-    ap (λ ns. map (declared_index ns) (keys_by_number (definitions_of s))) (column_names_back s)
-    ∙ ap (λ ks. map (declared_index (names_of C)) (filter (is_of true) ks ++ filter (is_of false) ks)) (keys_back C C s.indexes)
-    ∙ ap (map (declared_index (names_of C))) (all_in_order C s.indexes (from_all _ _ is.shape.primary_first))
-    ∙ map_back (key_definition C) (declared_index (names_of C)) s.indexes (every_both Named Other (λ i. declared_index (names_of C) (key_definition C i) ≡ i) (λ i f o. f o) s.indexes
+    let Named : Index → Type 0 = λ i. Other i → declared_index C (key_definition C i) ≡ i in
+    ap (λ cs. map (declared_index cs) (keys_by_number (definitions_of s))) (columns_restored s is)
+    ∙ ap (λ ks. map (declared_index C) (filter (is_of true) ks ++ filter (is_of false) ks)) (keys_back C C s.indexes)
+    ∙ ap (map (declared_index C)) (all_in_order C s.indexes (from_all _ _ is.shape.primary_first))
+    ∙ map_back (key_definition C) (declared_index C) s.indexes (every_both Named Other (λ i. declared_index C (key_definition C i) ≡ i) (λ i f o. f o) s.indexes
     (every_both (FitsIndex C) IsNamedIndex Named (λ i f n o. index_back C (columns_apart s is) i f n o) s.indexes (from_all (FitsIndex C) s.indexes is.shape.indexes) (from_all IsNamedIndex s.indexes is.indexes)) (names_apart s is))
 
 schema_same : (s t : Schema) → t.table ≡ s.table → t.columns ≡ s.columns → t.indexes ≡ s.indexes → t ≡ s

@@ -1,6 +1,6 @@
 -- The statement of a schema has its columns and its indexes, and its text says all of it.
-use Rattle.std.proofs.Common.{◌≡◌, ℕ, zero, suc, ◌<◌, ◌≤◌, Bool, true, false, List, [], ◌∷◌, ◌++◌, length, map, refl, ap, arith}
-use Rattle.std.specs.Prelude.{slice_get}
+use Rattle.std.proofs.Common.{◌≡◌, ℕ, zero, suc, ◌<◌, ◌≤◌, ◌^◌, Bool, true, false, List, [], ◌∷◌, ◌++◌, length, map, Option, Some, None, refl, ap, subst, arith}
+use Rattle.std.specs.Prelude.{slice_get, IfSome}
 use Rattle.std.specs.List.{AllByRecursion, list_any}
 use Rattle.std.proofs.lemmas.List.{length-map}
 use Rattle.rx_value.specs.declared.shapes.ColType.{ColType}
@@ -9,7 +9,7 @@ use Rattle.rx_value.specs.declared.shapes.Column.{Column}
 use Rattle.rx_value.specs.declared.shapes.Part.{Part}
 use Rattle.rx_value.specs.declared.shapes.Index.{Index}
 use Rattle.rx_value.specs.declared.shapes.Schema.{Schema}
-use Rattle.rx_value.specs.Shape.{HasWidth, IsColType, FitsIndex}
+use Rattle.rx_value.specs.Shape.{HasWidth, IsColType, IsTextOver, FitsPrefix, FitsIndex}
 use Rattle.rx_ddl.specs.declared.statements.CreateDefinition.{CreateDefinition}
 use Rattle.rx_ddl.specs.declared.statements.CreateDefinition.TheVariants as of
 use Rattle.rx_ddl.specs.Canonical.{IsName, IsTypeWord, is_tinyint, is_smallint, is_mediumint, is_int, is_bigint, is_varchar, IsWidth, IsMarks, IsCanonicalColumn, IsKeyName, IsCanonicalPart, IsCanonicalKey, IsCanonicalDefinition, IsCanonical}
@@ -19,6 +19,7 @@ use Rattle.rx_schema.specs.Names.{primary_name}
 use Rattle.rx_schema.specs.Tables.{IsNamedIndex, IsDeclarable}
 use Rattle.rx_schema.specs.Writing.{size_word, kind_word, kind_arguments, sign_marks, null_marks, column_definition, name_of, part_definition, key_kind, key_definition, statement_of}
 use Rattle.rx_schema.proofs.Every.{every_map, every_both, every_of, every_append, to_all, from_all}
+use Rattle.rx_schema.proofs.Prefixes.{over_of}
 use Rattle.rx_schema.proofs.Typing.{by_width, IsTypedColumn, typed_columns}
 
 -- the columns and the keys of a statement of columns and then keys
@@ -69,23 +70,39 @@ column_named [] n h within = absurd (omega arith)
 column_named (c ∷ columns) zero h within = h.0
 column_named (c ∷ columns) (suc n) h within = column_named columns n h.1 (omega arith)
 
-parts_written : (columns : List Column) → AllByRecursion (λ c. IsName c.name) columns → (parts : List Part) → AllByRecursion (λ n. n < length columns) (map (λ p. p.column) parts) → AllByRecursion IsCanonicalPart (map (part_definition columns) parts)
-parts_written columns h [] there = tt
-parts_written columns h (p ∷ parts) there = (record { column = column_named columns p.column h there.0; prefix = refl; rising = refl }, parts_written columns h parts there.1)
+-- a prefix length is a number that a token can be
+type_at : (columns : List Column) (k : ℕ) (c : Column) → AllByRecursion (λ d. IsColType d.kind) columns → slice_get columns k ≡ Some c → IsColType c.kind
+type_at [] k c h e = absurd cc
+type_at (d ∷ columns) zero c h e = let same : d ≡ c = cc in subst (λ (x : Column). IsColType x.kind) same h.0
+type_at (d ∷ columns) (suc k) c h e = type_at columns k c h.1 e
+
+prefix_written : (columns : List Column) (k : ℕ) (prefix : Option ℕ) → AllByRecursion (λ c. IsColType c.kind) columns → IfSome prefix (IsTextOver columns k) → IfSome prefix (λ n. n < 2 ^ 127)
+prefix_written columns k None h fits = tt
+prefix_written columns k (Some n) h fits =
+    let over = over_of columns k n fits in
+    let few : over.count ≤ 255 = subst IsColType over.kind (type_at columns k over.column h over.there) in
+    let less = over.less in
+    let limit : 256 ≤ 2 ^ 127 = omega arith in
+    omega arith
+
+parts_written : (columns : List Column) → AllByRecursion (λ c. IsName c.name) columns → AllByRecursion (λ c. IsColType c.kind) columns → (parts : List Part) → AllByRecursion (λ n. n < length columns) (map (λ p. p.column) parts) → AllByRecursion (FitsPrefix columns) parts → AllByRecursion IsCanonicalPart (map (part_definition columns) parts)
+parts_written columns h types [] there fits = tt
+parts_written columns h types (p ∷ parts) there fits =
+    (record { column = column_named columns p.column h there.0; prefix = prefix_written columns p.column p.chars types fits.0 }, parts_written columns h types parts there.1 fits.1)
 
 key_name_written : (primary unique : Bool) (name : List ℕ) → IsName name → (primary ≡ true → name ≡ primary_name) → IsKeyName (key_kind primary unique) name
 key_name_written true unique name h e = e refl
 key_name_written false true name h e = h
 key_name_written false false name h e = h
 
-key_written : (columns : List Column) → AllByRecursion (λ c. IsName c.name) columns → (i : Index) → FitsIndex columns i → IsNamedIndex i → IsCanonicalKey (key_definition columns i)
+key_written : (columns : List Column) → AllByRecursion (λ c. IsName c.name) columns → AllByRecursion (λ c. IsColType c.kind) columns → (i : Index) → FitsIndex columns i → IsNamedIndex i → IsCanonicalKey (key_definition columns i)
 unfolding key_definition
-key_written columns h i fits is =
+key_written columns h types i fits is =
     let some = fits.some in
     record {
       name = key_name_written i.primary i.unique i.name is.name is.primary;
       some = rw (length-map i.parts (part_definition columns)) (omega arith);
-      parts = to_all _ _ (parts_written columns h i.parts (from_all _ _ fits.there));
+      parts = to_all _ _ (parts_written columns h types i.parts (from_all _ _ fits.there) (from_all _ _ fits.prefixes));
       methods = refl;
     }
 
@@ -106,6 +123,6 @@ statement_canonical s is =
       column = has_column C (map (λ i. of.Key (key_definition C i)) s.indexes) is.some;
       definitions = to_all _ _ (every_append IsCanonicalDefinition (map (λ c. of.Column (column_definition c)) C) (map (λ i. of.Key (key_definition C i)) s.indexes)
           (every_of IsCanonicalDefinition (λ c. of.Column (column_definition c)) C (every_map IsTypedColumn (λ c. IsCanonicalColumn (column_definition c)) column_written C (typed_columns s is)))
-          (every_of IsCanonicalDefinition (λ i. of.Key (key_definition C i)) s.indexes (every_both (FitsIndex C) IsNamedIndex (λ i. IsCanonicalKey (key_definition C i)) (λ i f n. key_written C (names_given s is) i f n) s.indexes (from_all (FitsIndex C) s.indexes is.shape.indexes) (from_all IsNamedIndex s.indexes is.indexes))));
+          (every_of IsCanonicalDefinition (λ i. of.Key (key_definition C i)) s.indexes (every_both (FitsIndex C) IsNamedIndex (λ i. IsCanonicalKey (key_definition C i)) (λ i f n. key_written C (names_given s is) (from_all _ C is.shape.types) i f n) s.indexes (from_all (FitsIndex C) s.indexes is.shape.indexes) (from_all IsNamedIndex s.indexes is.indexes))));
       options = refl;
     }

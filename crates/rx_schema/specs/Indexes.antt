@@ -1,6 +1,9 @@
 -- The indexes that a statement declares.
-use Rattle.std.specs.Prelude.{ℕ, Bool, true, false, List, ◌++◌, None, map, filter, position, unwrap_or}
+use Rattle.std.specs.Prelude.{ℕ, Bool, true, false, List, ◌++◌, Option, Some, None, map, filter, position, unwrap_or, nat_lt, slice_get, if◌then◌else◌}
 use Rattle.rx_value.specs.Names.{same_name}
+use Rattle.rx_value.specs.declared.shapes.ColType.{ColType}
+use Rattle.rx_value.specs.declared.shapes.ColType.TheVariants.{Whole, VarChar}
+use Rattle.rx_value.specs.declared.shapes.Column.{Column}
 use Rattle.rx_value.specs.declared.shapes.Part.{Part}
 use Rattle.rx_value.specs.declared.shapes.Index.{Index}
 use Rattle.rx_ddl.specs.declared.statements.KeyKind.{KeyKind}
@@ -10,7 +13,9 @@ use Rattle.rx_ddl.specs.declared.statements.KeyDefinition.{KeyDefinition}
 use Rattle.rx_ddl.specs.declared.statements.CreateDefinition.{CreateDefinition}
 use Rattle.rx_schema.specs.Given.{keys_in}
 use Rattle.rx_schema.specs.Limits.{is_primary, is_secondary}
-use Rattle.rx_schema.specs.Names.{column_names, index_name}
+use Rattle.rx_schema.specs.Columns.{declared_columns}
+use Rattle.rx_schema.specs.Names.{index_name}
+use Rattle.rx_schema.specs.Tables.{names_of}
 
 -- PRIMARY KEY and UNIQUE
 abbrev pub is_unique_kind : KeyKind → Bool
@@ -22,17 +27,33 @@ is_unique_kind _ = false
 abbrev pub column_number : List (List ℕ) → List ℕ → ℕ
 column_number names name = unwrap_or (position (λ other. same_name name other) names) 0
 
--- a part of an index, rising and whole
-abbrev pub declared_part : List (List ℕ) → KeyPart → Part
-declared_part names part = record { column = column_number names part.column; descending = false; chars = None }
+-- a prefix length, where the texts of a column may be longer
+abbrev pub shorter_than : ColType → ℕ → Option ℕ
+shorter_than (VarChar count) n = if nat_lt n count then Some n else None
+shorter_than (Whole bits signed) n = None
+
+-- the prefix length of a part on a column, none where the texts are taken whole
+abbrev pub kept_prefix : Option Column → Option ℕ → Option ℕ
+kept_prefix column None = None
+kept_prefix None (Some n) = None
+kept_prefix (Some column) (Some n) = shorter_than column.kind n
+
+-- a part of an index with the number of its column
+abbrev pub numbered_part : List Column → ℕ → KeyPart → Part
+numbered_part columns number part =
+    record { column = number; descending = part.descending; chars = kept_prefix (slice_get columns number) part.prefix }
+
+-- a part of an index of a table with these columns
+abbrev pub declared_part : List Column → KeyPart → Part
+declared_part columns part = numbered_part columns (column_number (names_of columns) part.column) part
 
 -- an index: its name, its kind, and its parts in order
-unfoldable pub declared_index : List (List ℕ) → KeyDefinition → Index
-declared_index names key = record {
+unfoldable pub declared_index : List Column → KeyDefinition → Index
+declared_index columns key = record {
   name = index_name key;
   primary = is_primary key;
   unique = is_unique_kind key.kind;
-  parts = map (declared_part names) key.parts;
+  parts = map (declared_part columns) key.parts;
 }
 
 -- a primary key, or another one
@@ -46,4 +67,4 @@ keys_by_number items = filter (is_of true) (keys_in items) ++ filter (is_of fals
 
 -- the indexes by number
 abbrev pub declared_indexes : List CreateDefinition → List Index
-declared_indexes items = map (declared_index (column_names items)) (keys_by_number items)
+declared_indexes items = map (declared_index (declared_columns items)) (keys_by_number items)

@@ -2,6 +2,7 @@ pub mod Columns
 pub mod Given
 pub mod Indexes
 pub mod Limits
+pub mod Lookup
 pub mod Names
 pub mod Outcomes
 pub mod Profile

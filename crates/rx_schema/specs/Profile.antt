@@ -1,5 +1,5 @@
 -- What a statement may say of columns and keys: the types and attributes that are read, and the first that isn't.
-use Rattle.std.specs.Prelude.{ℕ, Bool, true, false, ◌||◌, List, [], ◌∷◌, Option, Some, None, is_some, is_none, codes, nat_le, if◌then◌else◌}
+use Rattle.std.specs.Prelude.{ℕ, Bool, true, false, not, ◌&&◌, ◌||◌, List, [], ◌∷◌, Option, Some, None, is_none, find, codes, nat_le, if◌then◌else◌}
 use Rattle.std.specs.Option.{option_or}
 use Rattle.std.specs.List.{list_any, ends_with}
 use Rattle.rx_value.specs.Names.{same_name}
@@ -23,7 +23,7 @@ use Rattle.rx_schema.specs.declared.faults.Which.TheVariants as no
 use Rattle.rx_schema.specs.declared.types.TypeWord.{TypeWord}
 use Rattle.rx_schema.specs.declared.types.TypeWord.TheVariants as is
 use Rattle.rx_schema.specs.declared.profile.Defaults.{Defaults}
-use Rattle.rx_schema.specs.Given.{first_given, last_given}
+use Rattle.rx_schema.specs.Given.{first_given, last_given, columns_in}
 
 -- the type that a word names
 unfoldable pub type_word : List ℕ → TypeWord
@@ -140,9 +140,31 @@ kind_misfit Fulltext = Some no.KeyKind
 kind_misfit Spatial = Some no.KeyKind
 kind_misfit _ = None
 
--- a prefix length, and DESC behind it
-abbrev pub part_misfit : KeyPart → Option Which
-part_misfit part = if is_some part.prefix then Some no.Prefix else (if part.descending then Some no.Descending else None)
+-- the first column of a name
+abbrev pub column_named : List ColumnDefinition → List ℕ → Option ColumnDefinition
+column_named columns name = find (λ c. same_name name c.name) columns
+
+-- a length from 1 to a number of characters, where there is one
+abbrev pub is_within : Option ℕ → ℕ → Bool
+is_within None n = true
+is_within (Some most) n = nat_le 1 n && nat_le n most
+
+-- A varchar column takes a prefix length from 1 to its number of characters, and any where that number itself is refused;
+-- a column of another type takes none.
+abbrev pub takes_prefix : TypeWord → Option ℕ → ℕ → Bool
+takes_prefix is.VarChar most n = is_within most n
+takes_prefix (is.Whole bits) most n = false
+takes_prefix is.Other most n = false
+
+-- a column that is there doesn't take the prefix length that a part has
+abbrev pub is_refused : Option ColumnDefinition → Option ℕ → Bool
+is_refused column None = false
+is_refused None (Some n) = false
+is_refused (Some column) (Some n) = not (takes_prefix (type_word column.kind) (characters column.arguments) n)
+
+-- a prefix length that the part's column doesn't take
+abbrev pub part_misfit : List ColumnDefinition → KeyPart → Option Which
+part_misfit columns part = if is_refused (column_named columns part.column) part.prefix then Some no.Prefix else None
 
 -- USING with another word than BTREE
 abbrev pub method_misfit : Method → Option Which
@@ -150,16 +172,17 @@ method_misfit (Using word) = if same_name word (codes "BTREE") then None else So
 method_misfit Comment = None
 
 -- the first thing of a key that is outside the profile: its kind, then its parts, then what stands behind them
-unfoldable pub key_misfit : KeyDefinition → Option Which
-key_misfit key =
+unfoldable pub key_misfit : List ColumnDefinition → KeyDefinition → Option Which
+key_misfit columns key =
     option_or (kind_misfit key.kind)
-    (option_or (first_given part_misfit key.parts) (first_given method_misfit key.methods))
+    (option_or (first_given (part_misfit columns) key.parts) (first_given method_misfit key.methods))
 
--- the same of a column or a key
-abbrev pub item_misfit : Defaults → CreateDefinition → Option Which
-item_misfit defaults (Column column) = column_misfit defaults column
-item_misfit defaults (Key key) = key_misfit key
+-- the same of a column or a key of a table with these columns
+abbrev pub item_misfit : Defaults → List ColumnDefinition → CreateDefinition → Option Which
+item_misfit defaults columns (Column column) = column_misfit defaults column
+item_misfit defaults columns (Key key) = key_misfit columns key
 
 -- The first place in text order that is outside the profile.
 unfoldable pub first_misfit : CreateTable → Option Which
-first_misfit create = first_given (item_misfit (defaults_of create.options)) create.definitions
+first_misfit create =
+    first_given (item_misfit (defaults_of create.options) (columns_in create.definitions)) create.definitions

@@ -1,6 +1,5 @@
 -- The schemas that statements declare.
-use Rattle.std.specs.Prelude.{◌≡◌, ℕ, ◌≤◌, false, true, not, List, ◌∷◌, length, map, filter, All, None}
-use Rattle.rx_value.specs.declared.shapes.Part.{Part}
+use Rattle.std.specs.Prelude.{◌≡◌, ℕ, ◌≤◌, true, not, List, ◌∷◌, length, map, filter, All, None}
 use Rattle.rx_value.specs.declared.shapes.Column.{Column}
 use Rattle.rx_value.specs.declared.shapes.Index.{Index}
 use Rattle.rx_value.specs.declared.shapes.Schema.{Schema}
@@ -8,16 +7,10 @@ use Rattle.rx_value.specs.Shape.{IsSchema}
 use Rattle.rx_ddl.specs.Canonical.{IsName}
 use Rattle.rx_schema.specs.Names.{primary_name, first_repeated}
 
--- a part of an index, rising and whole
-pub record IsWholePart (part : Part) : Type 0 where
-  pub rising : part.descending ≡ false
-  pub whole : part.chars ≡ None
-
--- an index of such parts, with the name of the primary key where it is that
+-- an index with a name, that of the primary key where it is that
 pub record IsNamedIndex (index : Index) : Type 0 where
   pub name : IsName index.name
   pub primary : index.primary ≡ true → index.name ≡ primary_name
-  pub parts : All IsWholePart index.parts
 
 -- the names of the columns
 abbrev pub names_of : List Column → List (List ℕ)
@@ -28,7 +21,7 @@ abbrev pub index_names_of : List Index → List (List ℕ)
 index_names_of indexes = primary_name ∷ map (λ i. i.name) (filter (λ i. not i.primary) indexes)
 
 -- Some statement declares the schema: it is one within the limits, and has a column, names of 1 to 64 bytes from 32 to 126,
--- no two columns and no two indexes of one name without case, and parts that rise and are whole.
+-- and no two columns and no two indexes of one name without case.
 pub record IsDeclarable (schema : Schema) : Type 0 where
   pub shape : IsSchema schema
   pub table : IsName schema.table

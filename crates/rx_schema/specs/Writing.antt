@@ -64,9 +64,10 @@ abbrev pub name_of : Option Column → List ℕ
 name_of None = []
 name_of (Some column) = column.name
 
--- a part of a key: the name of its column
+-- a part of a key: the name of its column, its prefix length, and DESC
 abbrev pub part_definition : List Column → Part → KeyPart
-part_definition columns part = record { column = name_of (slice_get columns part.column); prefix = None; descending = false }
+part_definition columns part =
+    record { column = name_of (slice_get columns part.column); prefix = part.chars; descending = part.descending }
 
 -- what a key begins with, by whether it is primary and whether it is unique
 abbrev pub key_kind : Bool → Bool → KeyKind

@@ -34,17 +34,19 @@ fn unknown_column(alloc: Global, name: &[u8]) -> SchemaFault
 }
 
 /// The table, its columns and its indexes, by the names of the columns.
-#[tactic(auto, unfolding(crate::specs::Schema::declared))]
+#[tactic(auto, using(crate::proofs::Prefixes::columns_named), unfolding(crate::specs::Schema::declared))]
 fn declared(alloc: Global, names: &[Bytes], create: &CreateTable) -> Result<Schema, AllocError>
     requires few { length names.now ≤ most_columns }
     requires columns { names.now ≡ column_names create.now.definitions }
     ensures { IfOk result (λ schema. schema ≡ declared create.now) }
 {
     let items = create.definitions.as_slice();
+    let columns = declared_columns(alloc, items)?;
+    let indexes = declared_indexes(alloc, names, columns.as_slice(), items)?;
     Ok(Schema {
         table: Bytes::of(alloc, create.table.as_slice())?,
-        columns: declared_columns(alloc, items)?,
-        indexes: declared_indexes(alloc, names, items)?,
+        columns,
+        indexes,
     })
 }
 
@@ -78,8 +80,10 @@ fn named_schema(alloc: Global, create: &CreateTable) -> Result<Schema, SchemaFau
 pub(crate) fn schema_of(alloc: Global, create: &CreateTable) -> Result<Schema, SchemaFault>
     ensures { Answers (schema_of create.now) result }
 {
-    if let Some(which) = first_misfit(create) {
-        return Err(SchemaFault::NotInProfile { which });
+    match first_misfit(alloc, create) {
+        Ok(Some(which)) => return Err(SchemaFault::NotInProfile { which }),
+        Ok(None) => {}
+        Err(_) => return Err(SchemaFault::NoMemory),
     }
     if let Some(which) = too_many(create.definitions.as_slice()) {
         return Err(SchemaFault::TooMany { which });

@@ -15,10 +15,9 @@ pub enum Which {
     CharacterSet,
     /// FULLTEXT, SPATIAL, or USING with another word than BTREE.
     KeyKind,
-    /// A part of a key with a prefix length.
+    /// A part of a key with a prefix length, on a column that is no `varchar`, or of 0 or more characters than
+    /// the column's.
     Prefix,
-    /// A part of a key with DESC.
-    Descending,
 }
 
 /// What there is too much of.

@@ -6,6 +6,7 @@ mod declaring;
 mod faults;
 mod indexes;
 mod limits;
+mod lookup;
 mod names;
 mod profile;
 mod reading;

@@ -1,15 +1,17 @@
-ghost use Rattle.std.specs.Prelude.{◌≡◌, length, drop, ◌-◌, codes, [], ◌∷◌};
+ghost use Rattle.std.specs.Prelude.{◌≡◌, length, drop, ◌-◌, codes, [], ◌∷◌, IfOk};
 ghost use Rattle.std.specs.List.{list_any};
-ghost use Rattle.rx_schema.specs.Given.{first_given, last_given};
-ghost use Rattle.rx_schema.specs.Profile.{is_unsigned, is_zerofill, is_collation, is_character_set, own_collation, own_character_set, ends_in, ends_in_collate, ends_in_character_set, table_collation, table_character_set, defaults_of, is_another, takes_another_collation, takes_another_character_set, text_misfit, column_misfit, kind_misfit, part_misfit, method_misfit, key_misfit, item_misfit, first_misfit};
+ghost use Rattle.rx_schema.specs.Given.{first_given, last_given, columns_in};
+ghost use Rattle.rx_schema.specs.Profile.{is_unsigned, is_zerofill, is_collation, is_character_set, own_collation, own_character_set, ends_in, ends_in_collate, ends_in_character_set, table_collation, table_character_set, defaults_of, is_another, takes_another_collation, takes_another_character_set, text_misfit, column_misfit, kind_misfit, takes_prefix, part_misfit, method_misfit, key_misfit, item_misfit, first_misfit};
 
 use crate::faults::Which;
+use crate::lookup::{Columns, Texts};
 use crate::types::{TypeWord, characters, type_word};
 use rx_ddl::{
     Attribute, ColumnDefinition, CreateDefinition, CreateTable, KeyDefinition, KeyKind, KeyPart,
     Method, TableOption,
 };
 use rx_value::{Bytes, same_name};
+use std::alloc::{AllocError, Global};
 
 /// Whether the collation and the character set that a table's options name last are the ones that are read, where
 /// they name any.
@@ -238,24 +240,35 @@ fn kind_misfit(kind: KeyKind) -> Option<Which>
     }
 }
 
-/// What a part of a key has that is outside the profile: a prefix length, and behind it DESC.
-fn part_misfit(part: &KeyPart) -> Option<Which>
-    ensures { result ≡ part_misfit part.now }
+/// Whether a column takes a prefix length: a `varchar`, and a length from 1 to its characters, where these are read.
+fn takes_prefix(texts: Texts, count: u128) -> bool
+    ensures { result ≡ takes_prefix texts.word texts.most count }
 {
-    if part.prefix.is_some() {
-        Some(Which::Prefix)
-    } else if part.descending {
-        Some(Which::Descending)
-    } else {
-        None
+    match (texts.word, texts.most) {
+        (TypeWord::VarChar, Some(most)) => 1 <= count && count <= most as u128,
+        (TypeWord::VarChar, None) => true,
+        _ => false,
     }
 }
 
-fn first_part_misfit(parts: &[KeyPart]) -> Option<Which>
-    ensures { result ≡ first_given part_misfit parts.now }
+/// What a part of a key has that is outside the profile: a prefix length that its column doesn't take.
+fn part_misfit(columns: &Columns, part: &KeyPart) -> Option<Which>
+    ensures { result ≡ part_misfit columns.now part.now }
+{
+    let Some(count) = part.prefix else {
+        return None;
+    };
+    match columns.texts(part.column.as_slice()) {
+        Some(texts) if !takes_prefix(texts, count) => Some(Which::Prefix),
+        _ => None,
+    }
+}
+
+fn first_part_misfit(columns: &Columns, parts: &[KeyPart]) -> Option<Which>
+    ensures { result ≡ first_given (part_misfit columns.now) parts.now }
 {
     for part in parts {
-        if let Some(which) = part_misfit(part) {
+        if let Some(which) = part_misfit(columns, part) {
             return Some(which);
         }
     }
@@ -283,40 +296,52 @@ fn first_method_misfit(methods: &[Method]) -> Option<Which>
 }
 
 #[tactic(auto, unfolding(crate::specs::Profile::key_misfit))]
-fn key_misfit(key: &KeyDefinition) -> Option<Which>
-    ensures { result ≡ key_misfit key.now }
+fn key_misfit(columns: &Columns, key: &KeyDefinition) -> Option<Which>
+    ensures { result ≡ key_misfit columns.now key.now }
 {
     kind_misfit(key.kind)
-        .or(first_part_misfit(key.parts.as_slice()))
+        .or(first_part_misfit(columns, key.parts.as_slice()))
         .or(first_method_misfit(key.methods.as_slice()))
 }
 
-fn item_misfit(defaults: Defaults, item: &CreateDefinition) -> Option<Which>
-    ensures { result ≡ item_misfit defaults item.now }
+fn item_misfit(defaults: Defaults, columns: &Columns, item: &CreateDefinition) -> Option<Which>
+    ensures { result ≡ item_misfit defaults columns.now item.now }
 {
     match item {
         CreateDefinition::Column(column) => column_misfit(defaults, column),
-        CreateDefinition::Key(key) => key_misfit(key),
+        CreateDefinition::Key(key) => key_misfit(columns, key),
     }
 }
 
-fn first_item_misfit(defaults: Defaults, items: &[CreateDefinition]) -> Option<Which>
-    ensures { result ≡ first_given (item_misfit defaults) items.now }
+fn first_item_misfit(
+    defaults: Defaults,
+    columns: &Columns,
+    items: &[CreateDefinition],
+) -> Option<Which>
+    ensures { result ≡ first_given (item_misfit defaults columns.now) items.now }
 {
     for item in items {
-        if let Some(which) = item_misfit(defaults, item) {
+        if let Some(which) = item_misfit(defaults, columns, item) {
             return Some(which);
         }
     }
     None
 }
 
-/// The first place, in the order of the text, that is outside the profile of tables that are read. All that a column
-/// has stands at its name, and there the order is that of `Which`.
 #[tactic(auto, unfolding(crate::specs::Profile::first_misfit))]
-pub(crate) fn first_misfit(create: &CreateTable) -> Option<Which>
+fn first_misfit_among(columns: &Columns, create: &CreateTable) -> Option<Which>
+    requires { columns.now ≡ columns_in create.now.definitions }
     ensures { result ≡ first_misfit create.now }
 {
     let defaults = defaults_of(create.options.as_slice());
-    first_item_misfit(defaults, create.definitions.as_slice())
+    first_item_misfit(defaults, columns, create.definitions.as_slice())
+}
+
+/// The first place, in the order of the text, that is outside the profile of tables that are read. All that a column
+/// has stands at its name, and there the order is that of `Which`. The error is want of memory.
+pub(crate) fn first_misfit(alloc: Global, create: &CreateTable) -> Result<Option<Which>, AllocError>
+    ensures { IfOk result (λ which. which ≡ first_misfit create.now) }
+{
+    let columns = Columns::of(alloc, create.definitions.as_slice())?;
+    Ok(first_misfit_among(&columns, create))
 }

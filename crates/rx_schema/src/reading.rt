@@ -27,9 +27,12 @@ fn read_statement(alloc: Global, text: &[u8]) -> Result<Schema, SchemaFault>
 /// The last of several attributes or options of one kind counts, and NULL and NOT NULL are of one kind. A width of
 /// an integer type, defaults, comments and the other options of the table are passed over. A column of the primary
 /// key can't be NULL. The primary key has number 0 and the name `PRIMARY`, and the other keys follow in the order of
-/// the text. Names are compared without ASCII case and keep the spelling of the text.
+/// the text. A part of a key falls where DESC stands. On a `varchar` column it may have a prefix length from 1 to the
+/// characters of the column, and as many as these are read as none. Names are compared without ASCII case and keep
+/// the spelling of the text.
 ///
-/// [MySQL 8.0, "CREATE TABLE Statement"](https://dev.mysql.com/doc/refman/8.0/en/create-table.html)
+/// [MySQL 8.0, "CREATE TABLE Statement"](https://dev.mysql.com/doc/refman/8.0/en/create-table.html), and
+/// ["CREATE INDEX Statement"](https://dev.mysql.com/doc/refman/8.0/en/create-index.html) on prefix lengths and DESC
 ///
 /// # Errors
 ///

@@ -94,8 +94,8 @@ fn part_definition(alloc: Global, columns: &[Column], part: &Part) -> Result<Key
 {
     Ok(KeyPart {
         column: Bytes::of(alloc, column_name(columns, part.column))?,
-        prefix: None,
-        descending: false,
+        prefix: part.chars.map(|count| count as u128),
+        descending: part.descending,
     })
 }
 

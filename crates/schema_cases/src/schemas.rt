@@ -1,5 +1,5 @@
 use rx_schema::{SchemaFault, read_schema, write_schema};
-use rx_value::{ColType, Column, Index, Schema};
+use rx_value::{ColType, Column, Index, Part, Schema};
 use std::alloc::{AllocError, Global};
 
 // Appends a piece to a text.
@@ -27,6 +27,19 @@ fn show_column(alloc: Global, shown: &mut Vec<u8>, column: &Column) -> Result<()
     show(shown, b";")
 }
 
+// `0`, `0:3` with a prefix length, and `-` behind it where it falls.
+fn show_part(alloc: Global, shown: &mut Vec<u8>, part: &Part) -> Result<(), AllocError> {
+    let column = part.column;
+    show(shown, format!(in alloc; "{column}")?.as_bytes())?;
+    if let Some(chars) = part.chars {
+        show(shown, format!(in alloc; ":{chars}")?.as_bytes())?;
+    }
+    if part.descending {
+        show(shown, b"-")?;
+    }
+    Ok(())
+}
+
 // `k(0 1)`, `u!(0)` where it is unique, `PRIMARY!!(0)` where it is primary too.
 fn show_index(alloc: Global, shown: &mut Vec<u8>, index: &Index) -> Result<(), AllocError> {
     show(shown, b" ")?;
@@ -42,11 +55,7 @@ fn show_index(alloc: Global, shown: &mut Vec<u8>, index: &Index) -> Result<(), A
         if place > 0 {
             show(shown, b" ")?;
         }
-        if part.descending || part.chars.is_some() {
-            show(shown, b"~")?;
-        }
-        let column = part.column;
-        show(shown, format!(in alloc; "{column}")?.as_bytes())?;
+        show_part(alloc, shown, part)?;
     }
     show(shown, b")")
 }

@@ -4,4 +4,4 @@ use Rattle.rx_schema.proofs.indexes.declared_parts.Given as goal
 
 -- the parts so far
 abbrev pub invariant-loop-part : goal.invariant-loop-part
-invariant-loop-part l = l.list ≡ map (declared_part l.names) (take l.part-index l.parts)
+invariant-loop-part l = l.list ≡ map (declared_part l.columns) (take l.part-index l.parts)
