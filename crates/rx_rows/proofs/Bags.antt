@@ -1,5 +1,5 @@
 -- What rows in another order answer.
-use Rattle.std.proofs.Common.{ℕ, zero, suc, ◌<◌, Bool, true, false, List, [], ◌∷◌, cond, map, get_or, set, length, arith, swap, filter, IsPermutation}
+use Rattle.std.proofs.Common.{ℕ, zero, suc, ◌<◌, Bool, true, false, List, [], ◌∷◌, cond, get_or, set, length, arith, swap, filter, IsPermutation}
 use Rattle.std.proofs.lemmas.List.Sorted.{IsPermutation-refl, IsPermutation-cons, IsPermutation-trans, IsPermutation-middle, IsPermutation-map, IsPermutation-keeps}
 use Rattle.rx_value.specs.declared.values.Value.{Value}
 use Rattle.rx_cond.specs.Tri.{is_true}

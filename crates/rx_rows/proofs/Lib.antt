@@ -1,2 +1,5 @@
 pub mod Bags
+mod Examples
 mod Items
+pub mod Plain
+mod Small

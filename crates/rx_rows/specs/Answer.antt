@@ -1,5 +1,5 @@
 -- What a question answers.
-use Rattle.std.specs.Prelude.{ℕ, List, map, filter}
+use Rattle.std.specs.Prelude.{List, map, filter}
 use Rattle.rx_value.specs.declared.values.Value.{Value}
 use Rattle.rx_value.specs.declared.values.Value.TheVariants.{Null}
 use Rattle.rx_cond.specs.Test.{column_value}

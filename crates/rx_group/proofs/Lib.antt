@@ -1,0 +1,4 @@
+mod Lists
+mod Notes
+pub mod Rows
+pub mod Steps

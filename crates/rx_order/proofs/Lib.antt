@@ -1,0 +1,3 @@
+mod Flags
+pub mod Stable
+mod Total
