@@ -33,7 +33,6 @@ fn joined(
     h: Handle,
 ) -> Result<Handle, Fault>
     requires held { IsHeld arena.old (g ∷ h ∷ []) }
-    requires few { handle_count arena.old < 2 ^ 32 }
     ensures ok { IfOk result (λ r. Steps arena.old arena.new (g ∷ h ∷ []) (r ∷ [])) }
     ensures err { OnErr result (Steps arena.old arena.new (g ∷ h ∷ []) []) }
     ensures count { OnOk result (handle_count arena.new + 1 ≡ handle_count arena.old) }

@@ -18,8 +18,8 @@ pub enum Call {
     Or,
 }
 
-// What two graphs have in common, or either. Both are spent in every case.
-fn called(
+/// What two graphs have in common, or either. Both are spent in every case.
+pub fn called(
     alloc: Global,
     arena: &mut Arena,
     call: Call,
@@ -28,7 +28,6 @@ fn called(
     limit: u64,
 ) -> Result<Handle, GraphFault>
     requires held { IsHeld arena.old (g ∷ h ∷ []) }
-    requires few { handle_count arena.old < 2 ^ 32 }
     ensures ok { IfOk result (λ r. Steps arena.old arena.new (g ∷ h ∷ []) (r ∷ [])) }
     ensures err { OnErr result (Steps arena.old arena.new (g ∷ h ∷ []) []) }
     ensures count { OnOk result (handle_count arena.new + 1 ≡ handle_count arena.old) }

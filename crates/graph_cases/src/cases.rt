@@ -5,6 +5,7 @@ ghost use Rattle.rx_graph.specs.Graph.{handle_count};
 
 use crate::carried::{Call, call_told, met_within, pair_told};
 use crate::faults::Fault;
+use crate::lists::lists_within;
 use crate::lone_levels::levels_told;
 use crate::told::Told;
 use rx_graph::Arena;
@@ -79,6 +80,18 @@ fn met_case(alloc: Global, arena: &mut Arena, graphs: &str, limit: &str) -> Resu
     Ok(told)
 }
 
+// What is told of so many calls by chance.
+fn lists_case(alloc: Global, arena: &mut Arena, seed: &str, count: &str) -> Result<Told, Fault>
+    requires few { handle_count arena.old ≡ 0 }
+{
+    let seed = limit_of(seed)?;
+    let count = limit_of(count)?;
+    lists_within(alloc, arena, seed, count)?;
+    let mut told = Told::new();
+    told.first = count;
+    Ok(told)
+}
+
 // What is told of the calls of a case in an arena without handles.
 fn told_in(alloc: Global, arena: &mut Arena, words: &[&str]) -> Result<Told, Fault>
     requires few { handle_count arena.old ≡ 0 }
@@ -86,6 +99,7 @@ fn told_in(alloc: Global, arena: &mut Arena, words: &[&str]) -> Result<Told, Fau
     match words {
         [kind, g, h] if *kind == "pair" => pair_case(alloc, arena, g, h),
         [kind, graphs, limit] if *kind == "met" => met_case(alloc, arena, graphs, limit),
+        [kind, seed, count] if *kind == "lists" => lists_case(alloc, arena, seed, count),
         [kind, g, h, limit] if *kind == "and" => call_case(alloc, arena, Call::And, g, h, limit),
         [kind, g, h, limit] if *kind == "or" => call_case(alloc, arena, Call::Or, g, h, limit),
         _ => Err(Fault::Unreadable),
@@ -93,7 +107,7 @@ fn told_in(alloc: Global, arena: &mut Arena, words: &[&str]) -> Result<Told, Fau
 }
 
 /// What is told of a case: 'PARTS pair G H', 'PARTS and G H LIMIT', 'PARTS or G H LIMIT' and 'PARTS met G LIMIT' are
-/// about an arena, which is empty after the case; 'level SPANS SPANS' is about levels by themselves. A graph is
+/// about an arena, as is 'PARTS lists SEED COUNT' for that many calls by chance, which is empty after the case; 'level SPANS SPANS' is about levels by themselves. A graph is
 /// written as words with '&' between them, each 'all', 'none' or 'PART=SPANS', for what they have in common.
 ///
 /// # Errors

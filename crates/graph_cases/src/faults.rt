@@ -13,6 +13,8 @@ pub enum Fault {
     Refused,
     /// The graph has more items than the limit.
     OverLimit,
+    /// A graph isn't like its plain set.
+    Differs,
     /// Handles or items are left when all was given back.
     Left,
     /// Memory is wanting.
@@ -34,6 +36,7 @@ impl Fault {
             Fault::Unreadable => Some("unreadable"),
             Fault::Refused => Some("refused"),
             Fault::OverLimit => Some("over the limit"),
+            Fault::Differs => Some("differs from its set"),
             Fault::Left => Some("items are left"),
             Fault::NoMemory => None,
         }

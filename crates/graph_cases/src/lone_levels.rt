@@ -16,7 +16,7 @@ fn built(levels: &mut Levels, alloc: Global, text: &str) -> Result<Owned, Fault>
     ensures { IfOk result (λ r. Step levels.old levels.new [] (r ∷ [])) }
 {
     let spans = spans_of(alloc, text)?;
-    match build(levels, alloc, 0, spans.as_slice()) {
+    match build(levels, 0, spans) {
         Ok(level) => Ok(level),
         Err(AllocError) => Err(Fault::NoMemory),
     }

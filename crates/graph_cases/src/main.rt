@@ -5,6 +5,8 @@
 mod carried;
 mod cases;
 mod faults;
+mod grids;
+mod lists;
 mod lone_levels;
 mod operands;
 mod spans;

@@ -1,7 +1,6 @@
 pub mod Pieces
 pub mod Reached
 pub mod Narrowed
-pub mod Placed
 pub mod Meets
 pub mod MeetRoots
 pub mod HungLevels

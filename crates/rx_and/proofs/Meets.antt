@@ -19,6 +19,7 @@ use Rattle.rx_level.proofs.Turning.{kept_root}
 use Rattle.rx_weld.specs.Seamless.{IsSeamless}
 use Rattle.rx_weld.proofs.Seamless.{glue_size_first}
 use Rattle.rx_cut.proofs.Staying.{Stays, stays, stays_two}
+use Rattle.rx_limit.proofs.Glues.{Within, within}
 use Rattle.rx_and.proofs.Pieces.{across_are_apart, both_are_apart}
 use Rattle.rx_and.proofs.Reached.{Keeps}
 use Rattle.rx_and.proofs.Narrowed.{Side}
@@ -33,22 +34,6 @@ pub smaller : (whole below before after : Level) (span : Span) → whole ≡ joi
 smaller whole below before after span e =
     let size : level_size whole ≡ level_size before + (1 + level_size below + level_size after) = ap level_size e ∙ size-join before (item span below after) in
     record { child = omega (arith, size); left = omega (arith, size); right = omega (arith, size) }
-
--- each of three levels is at most as large as what they are glued to
-pub record Within (x m r whole : Level) : Type 0 where
-  pub first : level_size x ≤ level_size whole
-  pub second : level_size m ≤ level_size whole
-  pub third : level_size r ≤ level_size whole
-
-within : (x m r whole : Level) → IsSeamless x → IsSeamless m → glue x (glue m r) ≡ whole → Within x m r whole
-within x m r whole apart_x apart_m is =
-    let size : level_size (glue x (glue m r)) ≡ level_size whole = ap level_size is in
-    let back = glue_second x (glue m r) in
-    record {
-      first = omega (arith, glue_size_first x (glue m r) apart_x, size);
-      second = omega (arith, glue_size_first m r apart_m, back, size);
-      third = omega (arith, glue_second m r, back, size);
-    }
 
 piece_apart : (p : Option Piece) → IsSeamless (put_piece p end)
 piece_apart None = tt
@@ -236,13 +221,6 @@ piece_some a b c d child i j k rs part span sound is is_c lent_c is_d lent_d the
     unless_end-items (level_of b child) span (given_items a b child k rs step there)
     ∙ ap (λ x. put_piece (piece_of (Some span) (unless_end x)) end) level
     ∙ sym (piece_is a c d i j part span (both (level_of a c)) sound is is_c lent_c is_d lent_d)
-
--- three levels glued in two steps
-pub three_are : (a b : Slab Node) (left middle right front : Option ℕ) → Owns a (left ∷ middle ∷ right ∷ []) → Step a b (left ∷ middle ∷ []) (front ∷ []) → level_of b front ≡ glue (level_of a left) (level_of a middle)
-    → glue (level_of b front) (level_of b right) ≡ glue (level_of a left) (glue (level_of a middle) (level_of a right))
-three_are a b left middle right front owns step is =
-    let back = kept_root a b _ _ step right (λ m. omega (arith, owns.owned m)) in
-    (rw (is, back.level) refl) ∙ glue_assoc (level_of a left) (level_of a middle) (level_of a right)
 
 -- an item over a level that is held first
 pub alone_is : (a b d : Slab Node) (child whole : Option ℕ) (span : Span) → IsSound a [] → Lent a [] child → Step a b [] (child ∷ []) → level_of d whole ≡ item span (level_of b child) end → level_of d whole ≡ item span (level_of a child) end

@@ -17,11 +17,11 @@ ghost use Rattle.rx_and.specs.Fellows.{AreFellows};
 ghost use Rattle.rx_and.specs.Few.{IsFewMade, IsFewReached, IsFewCut};
 
 use crate::hanging::hang_below;
-use crate::limiting::within;
 use crate::meeting::both;
 use rx_cut::{bare_span, clip};
 use rx_graph::GraphFault;
 use rx_level::{Levels, Link, Owned};
+use rx_limit::within;
 use rx_pairs::{Memory, forget};
 use rx_value::Span;
 use std::alloc::Global;

@@ -10,10 +10,10 @@ ghost use Rattle.rx_level.specs.Step.{Step, Lent, level_of};
 ghost use Rattle.rx_level.specs.Under.{IsNumberUnder};
 ghost use Rattle.rx_graft.specs.Hang.{chain, depth_of};
 
-use crate::limiting::within;
 use rx_graft::{GraftFault, chain_of, graft};
 use rx_graph::GraphFault;
 use rx_level::{Levels, Owned};
+use rx_limit::within;
 use std::alloc::Global;
 
 /// What two lent levels have in common, where the second begins with as many whole items as the first goes down: the

@@ -4,7 +4,6 @@
 mod choosing;
 mod hanging;
 mod intersections;
-mod limiting;
 mod meeting;
 mod narrowing;
 

@@ -13,11 +13,11 @@ ghost use Rattle.rx_pairs.specs.Pairs.{Adds, IsReady, Lacks};
 ghost use Rattle.rx_and.specs.Fellows.{AreFellows, MayHangBelow};
 ghost use Rattle.rx_and.specs.MetPairs.{IsMet, Meets, sizes_of};
 
-use crate::limiting::{glue_three, hold_within, is_same_link};
 use crate::narrowing::{items_before, items_behind};
 use rx_cut::clip;
 use rx_graph::GraphFault;
 use rx_level::{Item, Levels, Link, Owned};
+use rx_limit::{glue_three, hold_within, is_same_link};
 use rx_pairs::{Memory, remember};
 use rx_value::{Span, compare_ends, meet};
 use std::alloc::{AllocError, Global};

@@ -40,13 +40,13 @@ fn till_end(alloc: Global, edge: &End, span: &Span) -> Result<Span, AllocError>
     Ok(Span { lo, hi })
 }
 
-// A handle of each of two lent levels. The error is want of memory.
-fn hold_both(levels: &mut Levels, one: Link, other: Link) -> Result<(), AllocError>
+/// A handle of each of two lent levels. The error is want of memory.
+pub fn hold_both(levels: &mut Levels, one: Link, other: Link) -> Result<(), AllocError>
     requires sound { IsSound levels.old [] }
     requires one { Lent levels.old [] one }
     requires other { Lent levels.old [] other }
     ensures ok { OnOk result (Step levels.old levels.new [] (one ∷ other ∷ [])) }
-    ensures live { OnOk result (slab_len levels.new ≤ slab_len levels.old) }
+    ensures live { slab_len levels.new ≤ slab_len levels.old }
     ensures err { OnErr result (Step levels.old levels.new [] []) }
 {
     let Ok(()) = levels.hold(one) else {

@@ -3,4 +3,4 @@
 
 mod clipping;
 
-pub use clipping::{ahead, bare_span, behind, clip};
+pub use clipping::{ahead, bare_span, behind, clip, hold_both};

@@ -1,5 +1,5 @@
 -- Levels that were taken out of an arena and are put back leave its trees canonical.
-use Rattle.std.proofs.Common.{◌≡◌, ◌+◌, ◌-◌, ◌^◌, ◌<◌, ◌≤◌, ℕ, [], ◌∷◌, Option, Some, None, arith, ap, ◌∙◌, subst}
+use Rattle.std.proofs.Common.{◌≡◌, ◌+◌, ◌-◌, ◌^◌, ◌<◌, ◌≤◌, ℕ, List, [], ◌∷◌, Option, Some, None, arith, ap, ◌∙◌, subst}
 use Rattle.slab.specs.Slab.{Slab}
 use Rattle.rx_tree.specs.Tree.Tree.{items}
 use Rattle.rx_tree.specs.Canonical.{IsCanonical}
@@ -51,18 +51,19 @@ back_spent old mid taken levels g h is_taken is_mid step was =
     (steps_from old (record mid { store = levels }) (Items g ∷ Items h ∷ []) [] (ap (λ x. x.nullable) is_mid) (subst (λ (s : Slab Node). Step s levels (Some g ∷ Some h ∷ []) []) is_taken step) (omega (arith, ap (λ x. x.all) is_mid)) (omega (arith, ap (λ x. x.none) is_mid)))
     was
 
--- where both are spent and none is given there is room for one
-pub few_left : (old mid new : Graph) (taken levels : Slab Node) (g h : ℕ) (o : Option ℕ) → handle_count old < 2 ^ 32
-    → taken ≡ old.store → mid ≡ record old { store = mid.store } → new ≡ record mid { store = levels }
-    → Step taken levels (Some g ∷ Some h ∷ []) (o ∷ []) → o ≡ None
-    → handle_count new < 2 ^ 32 - 1
-few_left old mid new taken levels g h o few is_taken is_mid is_new step absent =
-    let all : new.all ≡ old.all = ap (λ x. x.all) is_new ∙ ap (λ x. x.all) is_mid in
-    let none : new.none ≡ old.none = ap (λ x. x.none) is_new ∙ ap (λ x. x.none) is_mid in
-    let stored : total_held new.store ≡ total_held levels = ap (λ x. total_held x.store) is_new in
+-- one link at most is given
+pub one_root : (o : Option ℕ) → roots_in (o ∷ []) ≤ 1
+one_root None = omega arith
+one_root (Some k) = omega arith
+
+-- where two handles are spent and one at most is given there is room for one more
+pub few_back : (old mid : Graph) (taken levels : Slab Node) (g h : ℕ) (given : List (Option ℕ)) → handle_count old < 2 ^ 32
+    → taken ≡ old.store → mid ≡ record old { store = mid.store }
+    → Step taken levels (Some g ∷ Some h ∷ []) given → roots_in given ≤ 1
+    → handle_count (record mid { store = levels }) < 2 ^ 32 - 1
+few_back old mid taken levels g h given few is_taken is_mid step one =
     let before : total_held taken ≡ total_held old.store = ap total_held is_taken in
-    let empty : roots_in (o ∷ []) ≡ 0 = ap (λ x. roots_in (x ∷ [])) absent in
-    omega (arith, few, all, none, stored, before, empty, totals taken levels (Some g ∷ Some h ∷ []) (o ∷ []) (λ m. step.held m))
+    omega (arith, few, ap (λ x. x.all) is_mid, ap (λ x. x.none) is_mid, before, one, totals taken levels (Some g ∷ Some h ∷ []) given (λ m. step.held m))
 
 -- the first of two roots stands in their list, and so does the second
 pub times_first : (g h : Root) → 1 ≤ times g (g ∷ h ∷ [])

@@ -1,5 +1,5 @@
 -- What an arena means: trees by the numbers of their handles, and how often each is held.
-use Rattle.std.specs.Prelude.{◌≡◌, ◌≤◌, ◌<◌, ◌+◌, ℕ, Bool, List, [], ◌∷◌, Option, Some, None, length}
+use Rattle.std.specs.Prelude.{◌≡◌, ◌≤◌, ◌<◌, ◌+◌, ◌^◌, ℕ, Bool, List, [], ◌∷◌, Option, Some, None, length}
 use Rattle.slab.specs.Slab.{Slab}
 use Rattle.rx_value.specs.Limits.{most_parts}
 use Rattle.rx_tree.specs.Tree.{Tree}
@@ -90,3 +90,8 @@ pub record Steps (old new : Graph) (spent given : List Root) : Type 0 where
 -- the tree of each handle is canonical
 abbrev pub AreCanonical : Graph → Type 0
 AreCanonical g = (r : Root) → 0 < held_count g r → IsCanonical g.nullable (tree_in g r)
+
+-- what every call keeps: canonical trees, and no more handles than were let in
+pub record IsKept (g : Graph) : Type 0 where
+  pub canonical : AreCanonical g
+  pub few : handle_count g < 2 ^ 32

@@ -34,13 +34,13 @@ pub struct Arena {
 }
 
 impl Model for Arena {
-    ghost use Rattle.rx_graph.specs.Graph.{Graph, AreCanonical};
+    ghost use Rattle.rx_graph.specs.Graph.{Graph, IsKept};
 
     ghost Value = { Graph };
 
     ghost view = { λ a. record { nullable = a.nullable; store = a.levels; all = a.all; none = a.none } };
 
-    ghost invariant = { λ a. AreCanonical (record { nullable = a.nullable; store = a.levels; all = a.all; none = a.none }) };
+    ghost invariant = { λ a. IsKept (record { nullable = a.nullable; store = a.levels; all = a.all; none = a.none }) };
 }
 
 impl Arena {
@@ -126,11 +126,12 @@ impl Arena {
         }
     }
 
-    /// That the tree of each handle is canonical, that each item is reached from a handle, that an item stands
+    /// That the tree of each handle is canonical, that there are fewer than 2^32 handles, that each item is reached from a handle, that an item stands
     /// at one depth of a tree, however often, that the items of a tree are those that its link leads to, and
     /// that the store of levels is sound, on which a crate that works on levels builds.
     pub fn sound(&self)
         ensures canonical { AreCanonical self.now }
+        ensures few { handle_count self.now < 2 ^ 32 }
         ensures sound { IsSound self.now.store [] }
         ensures reached { (m : ℕ) → IsSome (get self.now.store m) → IsReached self.now.store m }
         ensures one_depth { (r : Option ℕ) → IsAtOneDepth (tree_of self.now.store r) }
@@ -202,14 +203,7 @@ impl Arena {
             return Ok(self.everything());
         }
         self.levels.sound();
-        let made = level_at(
-            &mut self.levels,
-            self.alloc,
-            self.nullable.as_slice(),
-            0,
-            part,
-            spans.as_slice(),
-        );
+        let made = level_at(&mut self.levels, self.nullable.as_slice(), 0, part, spans);
         let Ok(level) = made else {
             return Err(AllocError);
         };
@@ -264,7 +258,8 @@ impl Arena {
     /// Puts back the levels that were taken. Roots of levels that they hold are handles again, and their
     /// trees are canonical.
     pub fn put_levels(&mut self, levels: Levels)
-        requires { AreCanonical (record self.old { store = levels }) }
+        requires canonical { AreCanonical (record self.old { store = levels }) }
+        requires few { handle_count (record self.old { store = levels }) < 2 ^ 32 }
         ensures { self.new ≡ record self.old { store = levels } }
     {
         self.levels = levels;

@@ -57,7 +57,6 @@ fn and(
     limit: u64,
 ) -> Result<Handle, GraphFault>
     requires held { IsHeld arena.old (g ∷ h ∷ []) }
-    requires few { handle_count arena.old < 2 ^ 32 }
     ensures ok { IfOk result (λ r. (roots : List Root) (i j : ℕ) → AreRootsAt i j roots g h → Does (Operation.meet i j) (with_handles arena.old roots) (with_handles arena.new (without_two i j roots ++ r ∷ []))) }
     ensures err { OnErr result ((roots : List Root) (i j : ℕ) → AreRootsAt i j roots g h → Does (Operation.refused_meet i j) (with_handles arena.old roots) (with_handles arena.new (without_two i j roots))) }
 {
@@ -72,7 +71,6 @@ fn or(
     limit: u64,
 ) -> Result<Handle, GraphFault>
     requires held { IsHeld arena.old (g ∷ h ∷ []) }
-    requires few { handle_count arena.old < 2 ^ 32 }
     ensures ok { IfOk result (λ r. (roots : List Root) (i j : ℕ) → AreRootsAt i j roots g h → Does (Operation.unite i j) (with_handles arena.old roots) (with_handles arena.new (without_two i j roots ++ r ∷ []))) }
     ensures err { OnErr result ((roots : List Root) (i j : ℕ) → AreRootsAt i j roots g h → Does (Operation.refused_unite i j) (with_handles arena.old roots) (with_handles arena.new (without_two i j roots))) }
 {

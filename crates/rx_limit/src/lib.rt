@@ -3,4 +3,4 @@
 
 mod limiting;
 
-pub use limiting::{glue_three, hold_within, is_same_link};
+pub use limiting::{glue_three, hold_within, is_same_link, within};

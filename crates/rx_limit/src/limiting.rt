@@ -1,6 +1,7 @@
 //! Levels put together within a limit, so that touching neighbours with the same child are one item.
 
-ghost use Rattle.std.specs.Prelude.{◌≡◌, ◌<◌, ◌≤◌, ℕ, Bool, true, List, [], ◌∷◌, Option, Some, None, IfSome, IfOk, IfErr, OnErr};
+ghost use Rattle.std.specs.Prelude.{◌≡◌, ◌<◌, ◌≤◌, ℕ, Bool, true, List, [], ◌∷◌, Option, Some, None, IfSome, IfOk, IfErr, OnOk, OnErr};
+ghost use Rattle.slab.specs.Slab.{slab_len};
 ghost use Rattle.rx_tree.specs.Tree.{Level, level_size};
 ghost use Rattle.rx_tree.specs.Join.{join_level, length_of};
 ghost use Rattle.rx_tree.specs.Weld.{glue};
@@ -13,13 +14,16 @@ use rx_graph::GraphFault;
 use rx_level::{Levels, Link, Owned, join};
 use rx_weld::{glue, is_seam};
 
-// A level, unless it has more items than the limit: then its handle is spent.
-fn within(levels: &mut Levels, limit: u64, whole: Owned) -> Result<Owned, GraphFault>
+/// A level, unless it has more items than the limit: then its handle is spent.
+pub fn within(levels: &mut Levels, limit: u64, whole: Owned) -> Result<Owned, GraphFault>
     requires owns { Owns levels.old (whole ∷ []) }
     ensures ok { IfOk result (λ r. Step levels.old levels.new (whole ∷ []) (r ∷ [])) }
     ensures level { IfOk result (λ r. level_of levels.new r ≡ level_of levels.old whole) }
     ensures small { IfOk result (λ r. level_size (level_of levels.new r) ≤ limit) }
     ensures over { OnErr result (limit < level_size (level_of levels.old whole)) }
+    ensures live { slab_len levels.new ≤ slab_len levels.old }
+    ensures kept { OnOk result (levels.new ≡ levels.old) }
+    ensures root { IfOk result (λ r. r ≡ whole) }
     ensures err { OnErr result (Step levels.old levels.new (whole ∷ []) []) }
 {
     if levels.size(whole) > limit {

@@ -6,3 +6,4 @@ pub mod Laid
 pub mod UnionRoots
 pub mod Neighbours
 pub mod United
+pub mod Inserted

@@ -19,3 +19,11 @@ pub record IsCutBefore (e : End) (l kept : Level) (lo : End) : Type 0 where
 -- Of what stands behind the upper end of such a span: where the span ends once the item that it joins is taken into it, and the items that stay.
 pub record IsCutAfter (e : End) (l kept : Level) (hi : End) : Type 0 where
   pub joins : (lo : End) → weld (record { lo = lo; hi = e }) end (after e l) ≡ item (record { lo = lo; hi = hi }) end kept
+
+-- A level over which a span without a child is laid that touches no item: the items before it, the span, and those behind.
+pub record IsLaid (s : Span) (l whole : Level) : Type 0 where
+  pub front : Level
+  pub back : Level
+  pub first : IsCutBefore s.lo l front s.lo
+  pub second : IsCutAfter s.hi l back s.hi
+  pub is : whole ≡ join_level front (item s end back)

@@ -8,6 +8,7 @@ ghost use Rattle.rx_tree.specs.Cuts.{AreInOrder};
 ghost use Rattle.rx_or.specs.Cover.{covered};
 
 use crate::cutting::{cut_after, cut_before};
+use crate::inserting::insert;
 use rx_level::{Item, Levels, Owned, join};
 use rx_value::Span;
 use std::alloc::{AllocError, Global};
@@ -32,11 +33,39 @@ pub fn cover(
     ensures err { OnErr result (Step levels.old levels.new (root ∷ []) []) }
 {
     levels.sound();
-    let made = replace(levels, alloc, part, root, span);
+    let made = lay(levels, alloc, part, root, span);
     made
 }
 
-// The same, with the number of new items by the height of the level.
+// The same, with the number of new items by the height of the level: where the span touches no item it is one more.
+fn lay(
+    levels: &mut Levels,
+    alloc: Global,
+    part: u32,
+    root: Owned,
+    span: Span,
+) -> Result<Owned, AllocError>
+    requires owns { Owns levels.old (root ∷ []) }
+    requires order { AreInOrder (level_of levels.old root) }
+    ensures ok { IfOk result (λ r. Step levels.old levels.new (root ∷ []) (r ∷ [])) }
+    ensures level { IfOk result (λ r. level_of levels.new r ≡ covered span (level_of levels.old root)) }
+    ensures live { slab_len levels.new ≤ slab_len levels.old + 8 * tall_of levels.old root + 1 }
+    ensures err { OnErr result (Step levels.old levels.new (root ∷ []) []) }
+{
+    match insert(levels, alloc, part, root, &span) {
+        Ok(Some(whole)) => {
+            levels.free(root);
+            Ok(whole)
+        }
+        Ok(None) => replace(levels, alloc, part, root, span),
+        Err(error) => {
+            levels.free(root);
+            Err(error)
+        }
+    }
+}
+
+// The same, by cutting the level at both ends of the span.
 fn replace(
     levels: &mut Levels,
     alloc: Global,

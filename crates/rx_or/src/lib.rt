@@ -6,6 +6,7 @@ mod beside;
 mod covering;
 mod cutting;
 mod either;
+mod inserting;
 mod unions;
 mod uniting;
 

@@ -23,7 +23,6 @@ fn items_or(
     limit: u64,
 ) -> Result<Handle, GraphFault>
     requires held { IsHeld arena.old (items_root g ∷ items_root h ∷ []) }
-    requires few { handle_count arena.old < 2 ^ 32 }
     ensures ok { IfOk result (λ r. Steps arena.old arena.new (items_root g ∷ items_root h ∷ []) (r ∷ [])) }
     ensures tree { IfOk result (λ r. tree_in arena.new r ≡ tree_or arena.old.nullable (tree_in arena.old (items_root g)) (tree_in arena.old (items_root h))) }
     ensures small { IfOk result (λ r. size (tree_in arena.new r) ≤ limit) }
@@ -68,7 +67,6 @@ pub fn or(
     limit: u64,
 ) -> Result<Handle, GraphFault>
     requires held { IsHeld arena.old (g ∷ h ∷ []) }
-    requires few { handle_count arena.old < 2 ^ 32 }
     ensures ok { IfOk result (λ r. Steps arena.old arena.new (g ∷ h ∷ []) (r ∷ [])) }
     ensures tree { IfOk result (λ r. tree_in arena.new r ≡ tree_or arena.old.nullable (tree_in arena.old g) (tree_in arena.old h)) }
     ensures keys { IfOk result (λ r. (ps : List end_of_span) → IsTuple arena.old.nullable ps → holds (tree_in arena.new r) ps ≡ (holds (tree_in arena.old g) ps || holds (tree_in arena.old h) ps)) }

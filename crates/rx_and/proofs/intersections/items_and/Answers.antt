@@ -3,9 +3,9 @@ use Rattle.slab.specs.Slab.{Slab, slab_len}
 use Rattle.rx_level.specs.declared.nodes.Node.{Node}
 use Rattle.rx_level.specs.Step.{Owns}
 use Rattle.rx_graph.specs.declared.handles.Root.TheVariants.{Items}
-use Rattle.rx_graph.specs.Graph.{link_of}
+use Rattle.rx_graph.specs.Graph.{handle_count, link_of}
 use Rattle.rx_graph.proofs.GraphSteps.{owns_from}
-use Rattle.rx_graph.proofs.Back.{back_with, back_none, back_spent, few_left, times_first, times_second}
+use Rattle.rx_graph.proofs.Back.{back_with, back_none, back_spent, few_back, one_root, times_first, times_second}
 use Rattle.rx_and.proofs.HungLevels.{level_canonical, few_cut, few_made, few_reached, number_moved}
 use Rattle.rx_and.proofs.MeetRoots.{some_tree, some_canonical}
 use Rattle.rx_and.proofs.intersections.items_and.Goals as goal
@@ -25,8 +25,15 @@ level_and-requires-clause-second c =
     level_canonical c.args.arena.now c.parts.result.now c.take_levels-levels.result c.args.h (c.parts.ensures.items ∙ ap (λ x. x.nullable) c.take_levels-levels.ensures.rest) c.take_levels-levels.ensures.levels
     (omega (arith, c.requires.held (Items c.args.h), times_second (Items c.args.g) (Items c.args.h))) c.sound.ensures.canonical
 
-pub put_levels-requires : goal.put_levels-requires
-put_levels-requires c =
+pub put_levels-requires-clause-few : goal.put_levels-requires-clause-few
+put_levels-requires-clause-few c =
+    omega (
+      arith,
+      few_back c.args.arena.now c.take_levels-levels.new.self c.take_levels-levels.result c.level_and.new.levels c.args.g c.args.h (c.in-Ok-Some.field-0 ∷ []) c.sound.ensures.few c.take_levels-levels.ensures.levels c.take_levels-levels.ensures.rest c.in-Ok-Some.ensures.ok (one_root c.in-Ok-Some.field-0),
+    )
+
+pub put_levels-requires-clause-canonical : goal.put_levels-requires-clause-canonical
+put_levels-requires-clause-canonical c =
     back_with c.args.arena.now c.take_levels-levels.new.self c.take_levels-levels.result c.level_and.new.levels c.args.g c.args.h c.in-Ok-Some.key c.in-Ok-Some.field-0
     c.take_levels-levels.ensures.levels c.take_levels-levels.ensures.rest c.in-Ok-Some.field-0-is c.in-Ok-Some.ensures.ok
     (some_canonical c.args.arena.now c.take_levels-levels.result c.level_and.new.levels c.args.g c.args.h c.in-Ok-Some.key c.in-Ok-Some.field-0
@@ -35,20 +42,37 @@ put_levels-requires c =
     c.in-Ok-Some.ensures.ok c.in-Ok-Some.ensures.level c.sound.ensures.canonical)
     c.sound.ensures.canonical
 
-pub put_levels-requires-in-Ok-None : goal.put_levels-requires-in-Ok-None
-put_levels-requires-in-Ok-None c =
+pub put_levels-requires-in-Ok-None-clause-few : goal.put_levels-requires-in-Ok-None-clause-few
+put_levels-requires-in-Ok-None-clause-few c =
+    omega (
+      arith,
+      few_back c.args.arena.now c.take_levels-levels.new.self c.take_levels-levels.result c.level_and.new.levels c.args.g c.args.h (c.in-Ok-None.field-0 ∷ []) c.sound.ensures.few c.take_levels-levels.ensures.levels c.take_levels-levels.ensures.rest c.in-Ok-None.ensures.ok (one_root c.in-Ok-None.field-0),
+    )
+
+pub put_levels-requires-in-Ok-None-clause-canonical : goal.put_levels-requires-in-Ok-None-clause-canonical
+put_levels-requires-in-Ok-None-clause-canonical c =
     back_none c.args.arena.now c.take_levels-levels.new.self c.take_levels-levels.result c.level_and.new.levels c.args.g c.args.h c.in-Ok-None.field-0
     c.take_levels-levels.ensures.levels c.take_levels-levels.ensures.rest c.in-Ok-None.field-0-is c.in-Ok-None.ensures.ok c.sound.ensures.canonical
 
-pub put_levels-requires-in-Err : goal.put_levels-requires-in-Err
-put_levels-requires-in-Err c =
+pub put_levels-requires-in-Err-clause-few : goal.put_levels-requires-in-Err-clause-few
+put_levels-requires-in-Err-clause-few c =
+    omega (
+      arith,
+      few_back c.args.arena.now c.take_levels-levels.new.self c.take_levels-levels.result c.level_and.new.levels c.args.g c.args.h [] c.sound.ensures.few c.take_levels-levels.ensures.levels c.take_levels-levels.ensures.rest c.in-Err.ensures.err (omega arith),
+    )
+
+pub put_levels-requires-in-Err-clause-canonical : goal.put_levels-requires-in-Err-clause-canonical
+put_levels-requires-in-Err-clause-canonical c =
     back_spent c.args.arena.now c.take_levels-levels.new.self c.take_levels-levels.result c.level_and.new.levels c.args.g c.args.h
     c.take_levels-levels.ensures.levels c.take_levels-levels.ensures.rest c.in-Err.ensures.err c.sound.ensures.canonical
 
 pub nothing-requires : goal.nothing-requires
 nothing-requires c =
-    few_left c.args.arena.now c.take_levels-levels.new.self c.put_levels-in-Ok-None.new.self c.take_levels-levels.result c.level_and.new.levels c.args.g c.args.h c.in-Ok-None.field-0
-    c.requires.few c.take_levels-levels.ensures.levels c.take_levels-levels.ensures.rest c.put_levels-in-Ok-None.ensures c.in-Ok-None.ensures.ok c.in-Ok-None.field-0-is
+    omega (
+      arith,
+      ap handle_count c.put_levels-in-Ok-None.ensures,
+      few_back c.args.arena.now c.take_levels-levels.new.self c.take_levels-levels.result c.level_and.new.levels c.args.g c.args.h (c.in-Ok-None.field-0 ∷ []) c.sound.ensures.few c.take_levels-levels.ensures.levels c.take_levels-levels.ensures.rest c.in-Ok-None.ensures.ok (one_root c.in-Ok-None.field-0),
+    )
 
 pub returns-in-Ok-Some-clause-tree : goal.returns-in-Ok-Some-clause-tree
 returns-in-Ok-Some-clause-tree c =

@@ -7,4 +7,4 @@ pub returns-clause-by_bits : goal.returns-clause-by_bits
 returns-clause-by_bits c =
     λ bits few.
     let low = low_bits bits (tall_of c.args.levels.now c.args.root) (omega (arith, few, c.sound.ensures.low c.args.root)) in
-    omega (arith, low, c.replace-made.ensures.live)
+    omega (arith, low, c.lay-made.ensures.live)

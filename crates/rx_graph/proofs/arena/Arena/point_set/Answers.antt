@@ -18,10 +18,10 @@ returns-then-is_whole_at-clause-keys c =
     tree_holds c.args.self.now.nullable c.args.part c.args.spans _ c.requires.spans e
 
 pub returns-in_default-clause-canonical : goal.returns-in_default-clause-canonical
-returns-in_default-clause-canonical c = canonical_kept c.args.self.now (record { nullable = c.self.inside.nullable; store = c.level_at-made.new.levels; all = c.self.inside.all; none = c.self.inside.none }) [] (search rules) (subst AreCanonical c.self.view_is c.self.invariant)
+returns-in_default-clause-canonical c = canonical_kept c.args.self.now (record { nullable = c.self.inside.nullable; store = c.level_at-made.new.levels; all = c.self.inside.all; none = c.self.inside.none }) [] (search rules) (subst AreCanonical c.self.view_is c.self.invariant.canonical)
 
 pub invariant_of-self : goal.invariant_of-self
-invariant_of-self c = canonical_kept c.args.self.now (record { nullable = c.self.inside.nullable; store = c.level_at-made.new.levels; all = c.self.inside.all; none = c.self.inside.none }) [] (search rules) (subst AreCanonical c.self.view_is c.self.invariant)
+invariant_of-self c = record { canonical = canonical_kept c.args.self.now (record { nullable = c.self.inside.nullable; store = c.level_at-made.new.levels; all = c.self.inside.all; none = c.self.inside.none }) [] (search rules) (subst AreCanonical c.self.view_is c.self.invariant.canonical); few = omega (arith, c.requires.few, counted c.args.self.now (record { nullable = c.self.inside.nullable; store = c.level_at-made.new.levels; all = c.self.inside.all; none = c.self.inside.none }) [] ([]) (search rules)) }
 
 pub returns-in-Some-clause-keys : goal.returns-in-Some-clause-keys
 returns-in-Some-clause-keys c =
@@ -31,39 +31,39 @@ returns-in-Some-clause-keys c =
 pub returns-in-Some-clause-canonical : goal.returns-in-Some-clause-canonical
 returns-in-Some-clause-canonical c =
     let e : tree_in (record { nullable = c.self.inside.nullable; store = c.level_at-made.new.levels; all = c.self.inside.all; none = c.self.inside.none }) c.of.result ≡ point_tree c.args.self.now.nullable c.args.part c.args.spans = search rules in
-    canonical_given c.args.self.now (record { nullable = c.self.inside.nullable; store = c.level_at-made.new.levels; all = c.self.inside.all; none = c.self.inside.none }) [] c.of.result (search rules) (tree_canonical c.args.self.now.nullable c.args.part c.args.spans _ c.requires.spans e) (subst AreCanonical c.self.view_is c.self.invariant)
+    canonical_given c.args.self.now (record { nullable = c.self.inside.nullable; store = c.level_at-made.new.levels; all = c.self.inside.all; none = c.self.inside.none }) [] c.of.result (search rules) (tree_canonical c.args.self.now.nullable c.args.part c.args.spans _ c.requires.spans e) (subst AreCanonical c.self.view_is c.self.invariant.canonical)
 
 pub invariant_of-self-in-Some : goal.invariant_of-self-in-Some
 invariant_of-self-in-Some c =
     let e : tree_in (record { nullable = c.self.inside.nullable; store = c.level_at-made.new.levels; all = c.self.inside.all; none = c.self.inside.none }) c.of.result ≡ point_tree c.args.self.now.nullable c.args.part c.args.spans = search rules in
-    canonical_given c.args.self.now (record { nullable = c.self.inside.nullable; store = c.level_at-made.new.levels; all = c.self.inside.all; none = c.self.inside.none }) [] c.of.result (search rules) (tree_canonical c.args.self.now.nullable c.args.part c.args.spans _ c.requires.spans e) (subst AreCanonical c.self.view_is c.self.invariant)
+    record { canonical = canonical_given c.args.self.now (record { nullable = c.self.inside.nullable; store = c.level_at-made.new.levels; all = c.self.inside.all; none = c.self.inside.none }) [] c.of.result (search rules) (tree_canonical c.args.self.now.nullable c.args.part c.args.spans _ c.requires.spans e) (subst AreCanonical c.self.view_is c.self.invariant.canonical); few = omega (arith, c.requires.few, counted c.args.self.now (record { nullable = c.self.inside.nullable; store = c.level_at-made.new.levels; all = c.self.inside.all; none = c.self.inside.none }) [] (c.of.result ∷ []) (search rules)) }
 
 pub nothing-requires-in-None : goal.nothing-requires-in-None
 nothing-requires-in-None c =
-    absurd (level_stands c.args.self.now.nullable c.as_slice-4.result.now c.args.part c.args.spans c.as_slice-5.result.now _ (search rules) (search rules) c.in-Ok.ensures.level (ap (level_of c.level_at-made.new.levels) c.in-None.is) c.requires.spans (search rules))
+    absurd (level_stands c.args.self.now.nullable c.as_slice-4.result.now c.args.part c.args.spans c.args.spans _ (search rules) (search rules) c.in-Ok.ensures.level (ap (level_of c.level_at-made.new.levels) c.in-None.is) c.requires.spans (search rules))
 
 pub invariant_of-self-in-None : goal.invariant_of-self-in-None
 invariant_of-self-in-None c =
-    absurd (level_stands c.args.self.now.nullable c.as_slice-4.result.now c.args.part c.args.spans c.as_slice-5.result.now _ (search rules) (search rules) c.in-Ok.ensures.level (ap (level_of c.level_at-made.new.levels) c.in-None.is) c.requires.spans (search rules))
+    absurd (level_stands c.args.self.now.nullable c.as_slice-4.result.now c.args.part c.args.spans c.args.spans _ (search rules) (search rules) c.in-Ok.ensures.level (ap (level_of c.level_at-made.new.levels) c.in-None.is) c.requires.spans (search rules))
 
-pub returns-clause-tree : goal.returns-clause-tree
-returns-clause-tree c =
-    absurd (level_stands c.args.self.now.nullable c.as_slice-4.result.now c.args.part c.args.spans c.as_slice-5.result.now _ (search rules) (search rules) c.in-Ok.ensures.level (ap (level_of c.level_at-made.new.levels) c.in-None.is) c.requires.spans (search rules))
+pub returns-in-None-clause-tree : goal.returns-in-None-clause-tree
+returns-in-None-clause-tree c =
+    absurd (level_stands c.args.self.now.nullable c.as_slice-4.result.now c.args.part c.args.spans c.args.spans _ (search rules) (search rules) c.in-Ok.ensures.level (ap (level_of c.level_at-made.new.levels) c.in-None.is) c.requires.spans (search rules))
 
-pub returns-clause-keys : goal.returns-clause-keys
-returns-clause-keys c =
-    absurd (level_stands c.args.self.now.nullable c.as_slice-4.result.now c.args.part c.args.spans c.as_slice-5.result.now _ (search rules) (search rules) c.in-Ok.ensures.level (ap (level_of c.level_at-made.new.levels) c.in-None.is) c.requires.spans (search rules))
+pub returns-in-None-clause-keys : goal.returns-in-None-clause-keys
+returns-in-None-clause-keys c =
+    absurd (level_stands c.args.self.now.nullable c.as_slice-4.result.now c.args.part c.args.spans c.args.spans _ (search rules) (search rules) c.in-Ok.ensures.level (ap (level_of c.level_at-made.new.levels) c.in-None.is) c.requires.spans (search rules))
 
-pub returns-clause-canonical : goal.returns-clause-canonical
-returns-clause-canonical c =
-    absurd (level_stands c.args.self.now.nullable c.as_slice-4.result.now c.args.part c.args.spans c.as_slice-5.result.now _ (search rules) (search rules) c.in-Ok.ensures.level (ap (level_of c.level_at-made.new.levels) c.in-None.is) c.requires.spans (search rules))
+pub returns-in-None-clause-canonical : goal.returns-in-None-clause-canonical
+returns-in-None-clause-canonical c =
+    absurd (level_stands c.args.self.now.nullable c.as_slice-4.result.now c.args.part c.args.spans c.args.spans _ (search rules) (search rules) c.in-Ok.ensures.level (ap (level_of c.level_at-made.new.levels) c.in-None.is) c.requires.spans (search rules))
 
 pub returns-in-Some-clause-count : goal.returns-in-Some-clause-count
 returns-in-Some-clause-count c = omega (arith, counted c.args.self.now (record { nullable = c.self.inside.nullable; store = c.level_at-made.new.levels; all = c.self.inside.all; none = c.self.inside.none }) [] (c.of.result ∷ []) (search rules))
 
-pub returns-clause-count : goal.returns-clause-count
-returns-clause-count c =
-    absurd (level_stands c.args.self.now.nullable c.as_slice-4.result.now c.args.part c.args.spans c.as_slice-5.result.now _ (search rules) (search rules) c.in-Ok.ensures.level (ap (level_of c.level_at-made.new.levels) c.in-None.is) c.requires.spans (search rules))
+pub returns-in-None-clause-count : goal.returns-in-None-clause-count
+returns-in-None-clause-count c =
+    absurd (level_stands c.args.self.now.nullable c.as_slice-4.result.now c.args.part c.args.spans c.args.spans _ (search rules) (search rules) c.in-Ok.ensures.level (ap (level_of c.level_at-made.new.levels) c.in-None.is) c.requires.spans (search rules))
 
 pub returns-in_default-clause-err_count : goal.returns-in_default-clause-err_count
 returns-in_default-clause-err_count c =

@@ -1,5 +1,6 @@
 use Rattle.std.proofs.Common.{◌-◌, ◌∙◌, [], ◌∷◌, arith, ap, sym, rules}
 use Rattle.rx_level.specs.Store.{held_of}
+use Rattle.rx_graph.specs.Graph.{handle_count}
 use Rattle.rx_graph.proofs.Amounts.{counted}
 use Rattle.rx_graph.proofs.GraphSteps.{canonical_kept, held_all, held_none, held_items}
 use Rattle.rx_graph.proofs.arena.Arena.release.Goals as goal
@@ -17,22 +18,22 @@ free-requires c = record {
 }
 
 pub invariant_of-self : goal.invariant_of-self
-invariant_of-self c = canonical_kept (record { nullable = c.self.inside.nullable; store = c.self.inside.levels; all = c.self.inside.all; none = c.self.inside.none }) (record { nullable = c.self.inside.nullable; store = c.self.inside.levels; all = c.self.inside.all - 1; none = c.self.inside.none }) (c.args.h ∷ []) (search rules) c.self.invariant
+invariant_of-self c = record { canonical = canonical_kept (record { nullable = c.self.inside.nullable; store = c.self.inside.levels; all = c.self.inside.all; none = c.self.inside.none }) (record { nullable = c.self.inside.nullable; store = c.self.inside.levels; all = c.self.inside.all - 1; none = c.self.inside.none }) (c.args.h ∷ []) (search rules) c.self.invariant.canonical; few = omega (arith, c.self.invariant.few, counted c.args.self.now (record { nullable = c.self.inside.nullable; store = c.self.inside.levels; all = c.self.inside.all - 1; none = c.self.inside.none }) (c.args.h ∷ []) [] (search rules), ap handle_count c.self.view_is) }
 
 pub returns-in-Everything-clause-canonical : goal.returns-in-Everything-clause-canonical
-returns-in-Everything-clause-canonical c = canonical_kept (record { nullable = c.self.inside.nullable; store = c.self.inside.levels; all = c.self.inside.all; none = c.self.inside.none }) (record { nullable = c.self.inside.nullable; store = c.self.inside.levels; all = c.self.inside.all - 1; none = c.self.inside.none }) (c.args.h ∷ []) (search rules) c.self.invariant
+returns-in-Everything-clause-canonical c = canonical_kept (record { nullable = c.self.inside.nullable; store = c.self.inside.levels; all = c.self.inside.all; none = c.self.inside.none }) (record { nullable = c.self.inside.nullable; store = c.self.inside.levels; all = c.self.inside.all - 1; none = c.self.inside.none }) (c.args.h ∷ []) (search rules) c.self.invariant.canonical
 
 pub invariant_of-self-in-Nothing : goal.invariant_of-self-in-Nothing
-invariant_of-self-in-Nothing c = canonical_kept (record { nullable = c.self.inside.nullable; store = c.self.inside.levels; all = c.self.inside.all; none = c.self.inside.none }) (record { nullable = c.self.inside.nullable; store = c.self.inside.levels; all = c.self.inside.all; none = c.self.inside.none - 1 }) (c.args.h ∷ []) (search rules) c.self.invariant
+invariant_of-self-in-Nothing c = record { canonical = canonical_kept (record { nullable = c.self.inside.nullable; store = c.self.inside.levels; all = c.self.inside.all; none = c.self.inside.none }) (record { nullable = c.self.inside.nullable; store = c.self.inside.levels; all = c.self.inside.all; none = c.self.inside.none - 1 }) (c.args.h ∷ []) (search rules) c.self.invariant.canonical; few = omega (arith, c.self.invariant.few, counted c.args.self.now (record { nullable = c.self.inside.nullable; store = c.self.inside.levels; all = c.self.inside.all; none = c.self.inside.none - 1 }) (c.args.h ∷ []) [] (search rules), ap handle_count c.self.view_is) }
 
 pub returns-in-Nothing-clause-canonical : goal.returns-in-Nothing-clause-canonical
-returns-in-Nothing-clause-canonical c = canonical_kept (record { nullable = c.self.inside.nullable; store = c.self.inside.levels; all = c.self.inside.all; none = c.self.inside.none }) (record { nullable = c.self.inside.nullable; store = c.self.inside.levels; all = c.self.inside.all; none = c.self.inside.none - 1 }) (c.args.h ∷ []) (search rules) c.self.invariant
+returns-in-Nothing-clause-canonical c = canonical_kept (record { nullable = c.self.inside.nullable; store = c.self.inside.levels; all = c.self.inside.all; none = c.self.inside.none }) (record { nullable = c.self.inside.nullable; store = c.self.inside.levels; all = c.self.inside.all; none = c.self.inside.none - 1 }) (c.args.h ∷ []) (search rules) c.self.invariant.canonical
 
 pub invariant_of-self-in-Items : goal.invariant_of-self-in-Items
-invariant_of-self-in-Items c = canonical_kept (record { nullable = c.self.inside.nullable; store = c.self.inside.levels; all = c.self.inside.all; none = c.self.inside.none }) (record { nullable = c.self.inside.nullable; store = c.free.new.self; all = c.self.inside.all; none = c.self.inside.none }) (c.args.h ∷ []) (search rules) c.self.invariant
+invariant_of-self-in-Items c = record { canonical = canonical_kept (record { nullable = c.self.inside.nullable; store = c.self.inside.levels; all = c.self.inside.all; none = c.self.inside.none }) (record { nullable = c.self.inside.nullable; store = c.free.new.self; all = c.self.inside.all; none = c.self.inside.none }) (c.args.h ∷ []) (search rules) c.self.invariant.canonical; few = omega (arith, c.self.invariant.few, counted c.args.self.now (record { nullable = c.self.inside.nullable; store = c.free.new.self; all = c.self.inside.all; none = c.self.inside.none }) (c.args.h ∷ []) [] (search rules), ap handle_count c.self.view_is) }
 
 pub returns-in-Items-clause-canonical : goal.returns-in-Items-clause-canonical
-returns-in-Items-clause-canonical c = canonical_kept (record { nullable = c.self.inside.nullable; store = c.self.inside.levels; all = c.self.inside.all; none = c.self.inside.none }) (record { nullable = c.self.inside.nullable; store = c.free.new.self; all = c.self.inside.all; none = c.self.inside.none }) (c.args.h ∷ []) (search rules) c.self.invariant
+returns-in-Items-clause-canonical c = canonical_kept (record { nullable = c.self.inside.nullable; store = c.self.inside.levels; all = c.self.inside.all; none = c.self.inside.none }) (record { nullable = c.self.inside.nullable; store = c.free.new.self; all = c.self.inside.all; none = c.self.inside.none }) (c.args.h ∷ []) (search rules) c.self.invariant.canonical
 
 pub returns-in-Items-clause-count : goal.returns-in-Items-clause-count
 returns-in-Items-clause-count c = omega (arith, counted c.args.self.now (record { nullable = c.self.inside.nullable; store = c.free.new.self; all = c.self.inside.all; none = c.self.inside.none }) (c.args.h ∷ []) [] (search rules))
