@@ -1,0 +1,11 @@
+pub mod Counting
+pub mod Firsts
+pub mod Fronts
+pub mod Holding
+pub mod Making
+pub mod Numbering
+pub mod Numbers
+pub mod Repeating
+pub mod Rising
+pub mod Sorting
+pub mod Standing

@@ -1,0 +1,128 @@
+ghost use Rattle.std.specs.Prelude.{◌≡◌, ◌+◌, ◌<◌, IfSome};
+ghost use Rattle.rx_value.specs.Parts.{borrowed};
+ghost use Rattle.rx_index.specs.Heads.{IsFront, IsShort, IsWhole, IsShaped, IsDigit, IsHead, count_of};
+
+use rx_value::{Part, PartValue, Row};
+
+/// How the values of a part are numbered, in their order from 0 on: NULL first, then so many integers from the least one
+/// on, or texts of at most so many bytes, or texts by their first bytes.
+#[derive(Clone, Copy)]
+pub(crate) enum Shape {
+    Whole { least: i128, count: u128 },
+    Short { bytes: u32, count: u128 },
+    Front { bytes: u32, count: u128 },
+}
+
+/// A part of an index whose values are numbered.
+#[derive(Clone, Copy)]
+pub(crate) struct Field {
+    pub part: Part,
+    pub shape: Shape,
+}
+
+#[tactic(auto, using(crate::proofs::Fronts::front_past, crate::proofs::Fronts::front_on))]
+// The number of a text's first bytes behind those of a number, none where it is too large.
+fn front(before: u128, bytes: u32, text: &[u8]) -> Option<u128>
+    ensures { IfSome result (λ n. IsFront before bytes text.now n) }
+{
+    let Some(bytes) = bytes.checked_sub(1) else {
+        return Some(before);
+    };
+    let before = before.checked_mul(256)?;
+    match text.split_first() {
+        None => front(before, bytes, text),
+        Some((byte, rest)) => front(before.checked_add(u128::from(*byte))?, bytes, rest),
+    }
+}
+
+// The number of a text of at most so many bytes behind those of a number, none where it has more or the number is too
+// large.
+#[tactic(auto, using(crate::proofs::Fronts::short_past, crate::proofs::Fronts::short_on, crate::proofs::Fronts::short_end))]
+fn short(before: u128, bytes: u32, text: &[u8]) -> Option<u128>
+    ensures { IfSome result (λ n. IsShort before bytes text.now n) }
+{
+    let Some(bytes) = bytes.checked_sub(1) else {
+        return if text.is_empty() { Some(before) } else { None };
+    };
+    let before = before.checked_mul(257)?;
+    match text.split_first() {
+        None => short(before, bytes, text),
+        Some((byte, rest)) => short(before.checked_add(u128::from(*byte) + 1)?, bytes, rest),
+    }
+}
+
+// The number of an integer among those from the least one on.
+fn place_of(least: i128, count: u128, n: i128) -> Option<u128>
+    ensures { IfSome result (λ c. IsWhole least count n c) }
+{
+    let place = u128::try_from(n.checked_sub(least)?).ok()?;
+    if place < count {
+        place.checked_add(1)
+    } else {
+        None
+    }
+}
+
+// The number of a value that isn't NULL, by its place among so many.
+fn behind_null(place: u128, count: u128) -> Option<u128>
+    ensures { IfSome result (λ c. (place < count) × (c ≡ place + 1)) }
+{
+    if place < count {
+        place.checked_add(1)
+    } else {
+        None
+    }
+}
+
+// The number of a value by its shape, none where it has none.
+fn shaped(shape: Shape, value: PartValue<'_>) -> Option<u128>
+    ensures { IfSome result (λ c. IsShaped shape (borrowed value.entry) c) }
+{
+    match (shape, value) {
+        (_, PartValue::Null) => Some(0),
+        (Shape::Whole { least, count }, PartValue::Int(n)) => place_of(least, count, n),
+        (Shape::Short { bytes, count }, PartValue::Text(text)) => behind_null(
+            short(0, bytes, text)?,
+            count,
+        ),
+        (Shape::Front { bytes, count }, PartValue::Text(text)) => behind_null(
+            front(0, bytes, text)?,
+            count,
+        ),
+        _ => None,
+    }
+}
+
+// How many values a shape numbers besides NULL.
+fn count_of(shape: Shape) -> u128
+    ensures { result ≡ count_of shape }
+{
+    match shape {
+        Shape::Whole { least: _, count } => count,
+        Shape::Short { bytes: _, count } | Shape::Front { bytes: _, count } => count,
+    }
+}
+
+// The number of what a row has on a part, from the greatest down where the part falls.
+fn digit(field: &Field, row: &Row) -> Option<u128>
+    ensures { IfSome result (λ d. IsDigit field.now row.now d) }
+{
+    let number = shaped(field.shape, field.part.value(row))?;
+    if field.part.descending {
+        count_of(field.shape).checked_sub(number)
+    } else {
+        Some(number)
+    }
+}
+
+/// The first parts of a row's key as one number behind another, none where it is too large or a value isn't numbered.
+pub(crate) fn head(before: u128, fields: &[Field], row: &Row) -> Option<u128>
+    ensures { IfSome result (λ n. IsHead before fields.now row.now n) }
+{
+    let Some((field, fields)) = fields.split_first() else {
+        return Some(before);
+    };
+    let size = count_of(field.shape).checked_add(1)?;
+    let next = before.checked_mul(size)?.checked_add(digit(field, row)?)?;
+    head(next, fields, row)
+}

@@ -1,0 +1,19 @@
+//! The rows of a table in the order of their ids, and the entries of its indexes in order.
+#![tactic(auto)]
+
+mod bounds;
+mod building;
+mod duplicates;
+mod faults;
+mod fields;
+mod heads;
+mod indexed;
+mod orders;
+mod repeats;
+mod seeking;
+
+pub use bounds::{begin_of, end_of};
+pub use building::build;
+pub use faults::IndexFault;
+pub use indexed::Indexed;
+pub use seeking::{count_in, seek};
