@@ -6,6 +6,7 @@ ghost use Rattle.rx_value.specs.Keys.{key_cmp};
 ghost use Rattle.rx_index.specs.Entries.{IsOrder, IsEntered, entry_key};
 ghost use Rattle.rx_stats.specs.Steps.{is_new};
 ghost use Rattle.rx_stats.specs.Computed.{HasDifferent, fronts, per_key, AreNumbers, IsComputed};
+ghost use Rattle.rx_stats.specs.Statistics.{IsStatistics};
 
 use rx_index::Indexed;
 use rx_value::{List, NumberList, Part, Row, compare_keys};
@@ -93,7 +94,8 @@ fn numbers_of(
 pub fn computed(alloc: Global, t: &Indexed) -> Result<Statistics, AllocError>
     requires limits { IsSchema t.now.schema }
     requires entered { IsEntered t.now }
-    ensures { IfOk result (λ statistics. IsComputed t.now statistics) }
+    ensures exact { IfOk result (λ statistics. IsComputed t.now statistics) }
+    ensures suits { IfOk result (λ statistics. IsStatistics t.now.schema statistics) }
 {
     let count = t.schema.indexes.len();
     let mut statistics = Statistics::with_capacity(alloc, count)?;

@@ -1,0 +1,4 @@
+pub mod Composing
+pub mod Fitting
+pub mod Finding
+pub mod Rising
