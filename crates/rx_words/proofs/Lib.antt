@@ -1,0 +1,4 @@
+mod Forms
+mod Meaning
+mod Parts
+mod Walk
