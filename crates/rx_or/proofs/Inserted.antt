@@ -1,5 +1,5 @@
 -- A span without a child put into a level of which it touches no item.
-use Rattle.std.proofs.Common.{◌≡◌, inl, inr, Option, Some, IfSome, ◌<◌, ◌≤◌, ◌+◌, ◌-◌, ◌*◌, max, true, ℕ, arith, refl, ap, sym, ◌∙◌, subst}
+use Rattle.std.proofs.Common.{◌≡◌, inl, inr, Option, Some, IfSome, ◌<◌, ◌≤◌, ◌+◌, ◌-◌, ◌*◌, max, true, ℕ, arith, ap, sym, ◌∙◌, subst}
 use Rattle.std.proofs.lemmas.Bool.{cases_lt}
 use Rattle.rx_value.specs.declared.order.End.{End}
 use Rattle.rx_value.specs.declared.order.Span.{Span}

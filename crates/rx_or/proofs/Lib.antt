@@ -7,3 +7,4 @@ pub mod UnionRoots
 pub mod Neighbours
 pub mod United
 pub mod Inserted
+mod UnionPairs

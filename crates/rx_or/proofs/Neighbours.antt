@@ -1,8 +1,6 @@
 -- A level beside another.
 use Rattle.std.proofs.Common.{◌≡◌, ◌+◌, ℕ, zero, suc, Bool, List, [], ◌∷◌, Option, Some, None, arith, refl, ap, sym, ◌∙◌}
 use Rattle.slab.specs.Slab.{Slab}
-use Rattle.rx_value.specs.declared.order.End.{End}
-use Rattle.rx_value.specs.declared.order.Span.{Span}
 use Rattle.rx_value.specs.Spans.{IsAtMost}
 use Rattle.rx_value.proofs.Ends.{at_most-trans, at_most-from_equal, below-at_most}
 use Rattle.rx_tree.specs.Tree.{Level}

@@ -25,7 +25,7 @@ use Rattle.rx_weld.specs.Seamless.{IsSeamless}
 use Rattle.rx_weld.proofs.Welded.{owned_lent}
 use Rattle.rx_cut.specs.Clip.{clipped}
 use Rattle.rx_cut.proofs.Staying.{Stays, stays, stays_two}
-use Rattle.rx_limit.proofs.Glues.{Within, within, Glues, kept, glues_from}
+use Rattle.rx_limit.proofs.Glues.{Within, within, Kept, Glues, glues_from}
 use Rattle.rx_or.specs.Below.{union_below, unless_all, ArePlacedBelow}
 use Rattle.rx_or.proofs.Reaching.{order_apart}
 use Rattle.rx_or.proofs.Laid.{placed_left, placed_item, placed_right, below_some}
@@ -96,16 +96,23 @@ behind_later a b parts side h e one other = ap₂ (λ x y. either parts x (after
 pub placed_later : (a b : Slab Node) (parts : List Bool) (r : Option ℕ) → Stays a b r → ArePlaced parts (level_of a r) → ArePlaced parts (level_of b r)
 placed_later a b parts r s placed = subst (ArePlaced parts) (sym s.level) placed
 
+-- the middle, the front and the back of a level, made one after another beside other handles
+kept : (a b d e : Slab Node) (middle front back : Option ℕ) (ms fs bs : List (Option ℕ)) → Step a b [] (middle ∷ ms) → Step b d [] (front ∷ fs) → Step d e [] (back ∷ bs) → Kept b d e middle front
+kept a b d e middle front back ms fs bs one two three = record {
+  middle_kept = (kept_root d e _ _ three middle (λ m. omega (arith, one.held m, two.held m))).level ∙ (kept_root b d _ _ two middle (λ m. omega (arith, one.held m))).level;
+  front_kept = (kept_root d e _ _ three front (λ m. omega (arith, two.held m))).level;
+}
+
 -- either of two levels, at the topmost item of the first
-pub united : (a b d e : Slab Node) (parts : List Bool) (g h child l r middle front back : Option ℕ) (s t : Span)
+pub united : (a b d e : Slab Node) (parts : List Bool) (g h child l r middle front back : Option ℕ) (ms fs bs : List (Option ℕ)) (s t : Span)
     → IsSound a [] → Lent a [] h → Lent a [] l → Lent a [] r
     → level_of a g ≡ join_level (level_of a l) (item t (level_of a child) (level_of a r)) → s ≡ t → ArePlaced parts (level_of a g) → ArePlaced parts (level_of a h)
-    → Step a b [] (middle ∷ []) → level_of b middle ≡ either parts (item s (level_of a child) end) (clipped s (level_of a h))
-    → Step b d [] (front ∷ []) → level_of d front ≡ either parts (level_of b l) (before s.lo (level_of b h))
-    → Step d e [] (back ∷ []) → level_of e back ≡ either parts (level_of d r) (after s.hi (level_of d h))
+    → Step a b [] (middle ∷ ms) → level_of b middle ≡ either parts (item s (level_of a child) end) (clipped s (level_of a h))
+    → Step b d [] (front ∷ fs) → level_of d front ≡ either parts (level_of b l) (before s.lo (level_of b h))
+    → Step d e [] (back ∷ bs) → level_of e back ≡ either parts (level_of d r) (after s.hi (level_of d h))
     → Glues e front middle back (either parts (level_of a g) (level_of a h))
-united a b d e parts g h child l r middle front back s t sound lent_h lent_l lent_r opened is first second one is_middle two is_front three is_back =
-    let k = kept a b d e middle front back one two three in
+united a b d e parts g h child l r middle front back ms fs bs s t sound lent_h lent_l lent_r opened is first second one is_middle two is_front three is_back =
+    let k = kept a b d e middle front back ms fs bs one two three in
     let j = opened_joins parts (level_of a g) (level_of a l) t s (level_of a child) (level_of a r) (level_of a h) opened is first second in
     glues_from e front middle back
     (either parts (level_of a l) (before s.lo (level_of a h))) (either parts (item s (level_of a child) end) (clipped s (level_of a h))) (either parts (level_of a r) (after s.hi (level_of a h))) (either parts (level_of a g) (level_of a h))
@@ -166,15 +173,15 @@ pub filled_later : (a b : Slab Node) (parts : List Bool) (lo hi : End) (c m : Op
 filled_later a b parts lo hi c m one other = ap₂ (filled parts lo hi) one.level other.level
 
 -- an item that is united with a level within it, at the topmost item of that
-pub filled_up : (a b d e : Slab Node) (parts : List Bool) (inside child under l r middle front back : Option ℕ) (lo hi : End) (s t : Span)
+pub filled_up : (a b d e : Slab Node) (parts : List Bool) (inside child under l r middle front back : Option ℕ) (ms fs bs : List (Option ℕ)) (lo hi : End) (s t : Span)
     → IsSound a [] → Lent a [] child → Lent a [] l → Lent a [] r
     → level_of a inside ≡ join_level (level_of a l) (item t (level_of a under) (level_of a r)) → s ≡ t → MayFill parts lo hi (level_of a child) (level_of a inside)
-    → Step a b [] (middle ∷ []) → level_of b middle ≡ item s (union_below parts (level_of a child) (level_of a under)) end
-    → Step b d [] (front ∷ []) → level_of d front ≡ filled parts lo s.lo (level_of b child) (level_of b l)
-    → Step d e [] (back ∷ []) → level_of e back ≡ filled parts s.hi hi (level_of d child) (level_of d r)
+    → Step a b [] (middle ∷ ms) → level_of b middle ≡ item s (union_below parts (level_of a child) (level_of a under)) end
+    → Step b d [] (front ∷ fs) → level_of d front ≡ filled parts lo s.lo (level_of b child) (level_of b l)
+    → Step d e [] (back ∷ bs) → level_of e back ≡ filled parts s.hi hi (level_of d child) (level_of d r)
     → Glues e front middle back (filled parts lo hi (level_of a child) (level_of a inside))
-filled_up a b d e parts inside child under l r middle front back lo hi s t sound lent_c lent_l lent_r opened is fits one is_middle two is_front three is_back =
-    let k = kept a b d e middle front back one two three in
+filled_up a b d e parts inside child under l r middle front back ms fs bs lo hi s t sound lent_c lent_l lent_r opened is fits one is_middle two is_front three is_back =
+    let k = kept a b d e middle front back ms fs bs one two three in
     let j = (fills parts lo hi (level_of a child) (level_of a inside) (level_of a l) t s (level_of a under) (level_of a r) opened is fits).joins in
     glues_from e front middle back
     (filled parts lo s.lo (level_of a child) (level_of a l)) (item s (union_below parts (level_of a child) (level_of a under)) end) (filled parts s.hi hi (level_of a child) (level_of a r)) (filled parts lo hi (level_of a child) (level_of a inside))
@@ -276,19 +283,19 @@ pub given_lent : (a b : Slab Node) (r : Option ℕ) → Step a b [] (r ∷ []) �
 given_lent a b r step = owned_lent b (r ∷ []) r (record { sound = step.sound; owned = λ m. omega (arith, step.held m) }) (λ m. omega arith)
 
 -- and stays while one that was given before it is let go
-given_stays : (a b d e : Slab Node) (cut whole : Option ℕ) → Step a b [] (cut ∷ []) → Step b d [] (whole ∷ []) → Step d e (cut ∷ []) [] → level_of e whole ≡ level_of d whole
-given_stays a b d e cut whole one two three = (kept_root d e (cut ∷ []) [] three whole (λ m. omega (arith, one.held m, two.held m))).level
+given_stays : (a b d e : Slab Node) (cut whole : Option ℕ) (ws : List (Option ℕ)) → Step a b [] (cut ∷ []) → Step b d [] (whole ∷ ws) → Step d e (cut ∷ []) [] → level_of e whole ≡ level_of d whole
+given_stays a b d e cut whole ws one two three = (kept_root d e (cut ∷ []) [] three whole (λ m. omega (arith, one.held m, two.held m))).level
 
 -- either of a level and what is cut of another
-pub cut_either : (a b d e : Slab Node) (parts : List Bool) (side cut whole : Option ℕ) (x : Level) → IsSound a [] → Lent a [] side
-    → Step a b [] (cut ∷ []) → level_of b cut ≡ x → Step b d [] (whole ∷ []) → level_of d whole ≡ either parts (level_of b side) (level_of b cut) → Step d e (cut ∷ []) []
+pub cut_either : (a b d e : Slab Node) (parts : List Bool) (side cut whole : Option ℕ) (ws : List (Option ℕ)) (x : Level) → IsSound a [] → Lent a [] side
+    → Step a b [] (cut ∷ []) → level_of b cut ≡ x → Step b d [] (whole ∷ ws) → level_of d whole ≡ either parts (level_of b side) (level_of b cut) → Step d e (cut ∷ []) []
     → level_of e whole ≡ either parts (level_of a side) x
-cut_either a b d e parts side cut whole x sound lent one is two level three =
-    given_stays a b d e cut whole one two three ∙ level ∙ ap₂ (either parts) (stays a b _ sound one side lent).level is
+cut_either a b d e parts side cut whole ws x sound lent one is two level three =
+    given_stays a b d e cut whole ws one two three ∙ level ∙ ap₂ (either parts) (stays a b _ sound one side lent).level is
 
 -- an item that is united with what is cut of a level within it
-pub cut_filled : (a b d e : Slab Node) (parts : List Bool) (child inside whole : Option ℕ) (s : Span) (l : Level) → IsSound a [] → Lent a [] child → ArePlaced parts (item s (level_of a child) end)
-    → Step a b [] (inside ∷ []) → level_of b inside ≡ clipped s l → Step b d [] (whole ∷ []) → level_of d whole ≡ filled parts s.lo s.hi (level_of b child) (level_of b inside) → Step d e (inside ∷ []) []
+pub cut_filled : (a b d e : Slab Node) (parts : List Bool) (child inside whole : Option ℕ) (ws : List (Option ℕ)) (s : Span) (l : Level) → IsSound a [] → Lent a [] child → ArePlaced parts (item s (level_of a child) end)
+    → Step a b [] (inside ∷ []) → level_of b inside ≡ clipped s l → Step b d [] (whole ∷ ws) → level_of d whole ≡ filled parts s.lo s.hi (level_of b child) (level_of b inside) → Step d e (inside ∷ []) []
     → level_of e whole ≡ either parts (item s (level_of a child) end) (clipped s l)
-cut_filled a b d e parts child inside whole s l sound lent alone one is two level three =
-    given_stays a b d e inside whole one two three ∙ level ∙ ap₂ (filled parts s.lo s.hi) (stays a b _ sound one child lent).level is ∙ item_filled parts s (level_of a child) l alone
+cut_filled a b d e parts child inside whole ws s l sound lent alone one is two level three =
+    given_stays a b d e inside whole ws one two three ∙ level ∙ ap₂ (filled parts s.lo s.hi) (stays a b _ sound one child lent).level is ∙ item_filled parts s (level_of a child) l alone

@@ -1,5 +1,5 @@
 -- The union of children below a level, and a level that is all or one span.
-use Rattle.std.specs.Prelude.{Bool, cond, List, [], ◌∷◌}
+use Rattle.std.specs.Prelude.{◌≡◌, Bool, cond, List, [], ◌∷◌}
 use Rattle.rx_tree.specs.Tree.{Level}
 use Rattle.rx_tree.specs.Tree.Level.{end, item}
 use Rattle.rx_tree.specs.Canonical.{ArePlaced}
@@ -10,6 +10,10 @@ use Rattle.rx_or.specs.Cover.{covered}
 abbrev pub union_below : List Bool → Level → Level → Level
 union_below [] c d = end
 union_below (n ∷ ns) c d = either_child ns c d
+
+-- the third level is what goes on below either of the first two
+abbrev pub IsUnionBelow : List Bool → Level → Level → Level → Type 0
+IsUnionBelow parts c d made = made ≡ union_below parts c d
 
 -- the items of a child of a level's items are in their places
 abbrev pub ArePlacedBelow : List Bool → Level → Type 0

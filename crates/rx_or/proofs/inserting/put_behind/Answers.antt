@@ -1,4 +1,4 @@
-use Rattle.std.proofs.Common.{◌≡◌, ℕ, arith, refl, subst, ◌∙◌}
+use Rattle.std.proofs.Common.{ℕ, arith, refl, subst, ◌∙◌}
 use Rattle.rx_level.specs.Tree.{IsHeight}
 use Rattle.rx_level.specs.Step.{tall_of}
 use Rattle.rx_level.proofs.Turning.{kept_root}
