@@ -1,2 +1,3 @@
+pub mod Bags
 mod Bounds
 mod More

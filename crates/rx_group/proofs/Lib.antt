@@ -1,4 +1,6 @@
+pub mod Bags
 mod Lists
 mod Notes
+pub mod Rearranged
 pub mod Rows
 pub mod Steps

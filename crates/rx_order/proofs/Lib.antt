@@ -1,3 +1,4 @@
+pub mod Bags
 mod Flags
 pub mod Stable
 mod Total

@@ -1,5 +1,5 @@
 -- A list in order is the only one: sorted, with what ties as it stood.
-use Rattle.std.proofs.Common.{◌≡◌, ℕ, suc, ◌+◌, ◌<◌, Bool, true, false, not, ◌&&◌, cond, List, [], ◌∷◌, length, filter, get_or, refl, sym, ap, subst, ◌∙◌, IsPermutation, arith}
+use Rattle.std.proofs.Common.{◌≡◌, ℕ, zero, suc, ◌+◌, ◌<◌, Bool, true, false, not, ◌&&◌, cond, List, [], ◌∷◌, length, filter, get_or, refl, sym, ap, subst, ◌∙◌, IsPermutation, arith}
 use Rattle.std.specs.List.{AllByRecursion}
 use Rattle.std.specs.List.Sorted.{IsSortedBy, IsStableBy, ties}
 use Rattle.std.specs.Cmp.{IsStrictWeakOrder}
@@ -64,6 +64,18 @@ module _ {X : Type 0} (lt : X → X → Bool) (o : IsStrictWeakOrder lt) where
   ordered_rises : (xs : List X) → Rises (ordered lt xs)
   ordered_rises [] = tt
   ordered_rises (x ∷ xs) = put_rises x (ordered lt xs) (ordered_rises xs)
+
+  rises_sorted : (xs : List X) → Rises xs → IsSortedBy lt xs
+  rises_sorted [] h k d z w = absurd (omega (arith, w))
+  rises_sorted (x ∷ []) h k d z w = absurd (omega (arith, w))
+  rises_sorted (x ∷ y ∷ ys) h zero d z w = h.0.0
+  rises_sorted (x ∷ y ∷ ys) h (suc k) d z w =
+      let n : suc (k + 1) ≡ suc k + 1 = omega arith in
+      subst (λ j. lt (get_or (x ∷ y ∷ ys) j d) (get_or (y ∷ ys) k d) ≡ false) n (rises_sorted (y ∷ ys) h.1 k d (omega arith) (omega (arith, w)))
+
+  -- it is in order
+  pub ordered_sorted : (xs : List X) → IsSortedBy lt (ordered lt xs)
+  ordered_sorted xs = rises_sorted (ordered lt xs) (ordered_rises xs)
 
   -- ---- what ties stays
 

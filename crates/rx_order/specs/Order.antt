@@ -22,15 +22,15 @@ value_by (Column column) o = column_value column o.1
 value_by (Place place) o = column_value place o.0
 
 -- output rows by one part of ORDER BY: NULL first, and where the order falls the other way round
-abbrev pub part_cmp : Order → Output → Output → Ordering
-part_cmp part a b =
+abbrev pub outputs_cmp_by : Order → Output → Output → Ordering
+outputs_cmp_by part a b =
     if part.falling then value_cmp (value_by part.by b) (value_by part.by a)
     else value_cmp (value_by part.by a) (value_by part.by b)
 
 -- output rows by the parts of ORDER BY in turn
 abbrev pub outputs_cmp : List Order → Output → Output → Ordering
 outputs_cmp [] a b = Equal
-outputs_cmp (part ∷ order) a b = ordering_then (part_cmp part a b) (outputs_cmp order a b)
+outputs_cmp (part ∷ order) a b = ordering_then (outputs_cmp_by part a b) (outputs_cmp order a b)
 
 -- an output row stands before another
 abbrev pub is_before : List Order → Output → Output → Bool

@@ -1,7 +1,7 @@
 ghost use Rattle.std.specs.Prelude.{◌≡◌, option_copied, unwrap_or, OnOk, IsPermutation};
 ghost use Rattle.std.specs.List.Sorted.{IsSortedBy, IsStableBy};
 ghost use Rattle.rx_value.specs.declared.values.Value.TheVariants.{Null};
-ghost use Rattle.rx_order.specs.Order.{value_by, part_cmp, outputs_cmp, is_before, in_order};
+ghost use Rattle.rx_order.specs.Order.{value_by, outputs_cmp_by, outputs_cmp, is_before, in_order};
 
 use crate::outputs::Output;
 use rx_group::compare_found;
@@ -22,7 +22,7 @@ fn value_by<'a>(by: By, output: &'a Output<'_>) -> Option<&'a Value>
 
 // Output rows by one part of ORDER BY.
 fn compare_part(part: Order, a: &Output<'_>, b: &Output<'_>) -> Ordering
-    ensures { result ≡ part_cmp part a.now b.now }
+    ensures { result ≡ outputs_cmp_by part a.now b.now }
 {
     let (left, right) = (value_by(part.by, a), value_by(part.by, b));
     if part.falling {

@@ -1,3 +1,4 @@
 pub mod Grouping
+pub mod Questions
 pub mod Settings
 pub mod Steps

@@ -3,6 +3,7 @@
 
 mod choosing;
 mod finishing;
+pub mod laws;
 mod lines;
 mod outputs;
 

@@ -4,11 +4,12 @@ use Rattle.std.specs.Prelude.{Result, Ok, Err}
 use Rattle.rx_value.specs.declared.shapes.Column.{Column as TheColumn}
 use Rattle.rx_value.specs.declared.shapes.Schema.{Schema}
 use Rattle.rx_script.specs.Statements.{WrittenSelect}
+use Rattle.rx_query.specs.Grouping.{grouped}
 use Rattle.rx_query.specs.Steps.{Question}
 use Rattle.rx_statement.specs.declared.faults.What.{What}
 use Rattle.rx_statement.specs.declared.faults.What.TheVariants.{NotGrouped}
 use Rattle.rx_statement.specs.Names.{unknown_name}
-use Rattle.rx_statement.specs.Asking.{is_mismatched, grouped, question_of, if_grouped, if_matched, if_known, asked}
+use Rattle.rx_statement.specs.Asking.{is_mismatched, question_of, if_grouped, if_matched, if_known, asked}
 
 module _ (schema : Schema) (w : WrittenSelect) (q : Question) {columns : List TheColumn} {m : Bool}
     (unknown : None ≡ unknown_name schema w)

@@ -14,6 +14,7 @@ use Rattle.rx_query.specs.declared.statements.Setting.{Setting}
 use Rattle.rx_query.specs.declared.statements.Statement.{Statement}
 use Rattle.rx_query.specs.declared.statements.Statement.TheVariants.{Query, Change}
 use Rattle.rx_query.specs.declared.statements.Numbered.{Numbered}
+use Rattle.rx_query.specs.Questions.{IsQuestion, IsRequest, IsStep}
 use Rattle.rx_query.specs.Steps.{Question, Request, request_of, Step, step_of, StatementWithin, SelectsWithin}
 use Rattle.rx_query.specs.Steps.Request.{select, change}
 use Rattle.rx_statement.specs.declared.faults.What.{What}
@@ -23,7 +24,6 @@ use Rattle.rx_statement.specs.Outcomes.{first_given, unless_refused, Answers}
 use Rattle.rx_statement.specs.Asking.{asked}
 use Rattle.rx_statement.specs.Changes.{changed}
 use Rattle.rx_statement.specs.Script.{Verdict, as_select, as_change, verdict_of, judged, Part, parts_from, verdict_if, verdict_on, step_at, refusal_in, step_in, outcome_of, read_of}
-use Rattle.rx_statement.specs.Questions.{IsQuestion, IsRequest, IsStep}
 use Rattle.rx_statement.proofs.Within.{is_question}
 
 abbrev found : Request → Verdict

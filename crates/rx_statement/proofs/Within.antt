@@ -29,13 +29,14 @@ use Rattle.rx_script.specs.Statements.{WrittenSelect}
 use Rattle.rx_query.specs.declared.statements.Item.{Item}
 use Rattle.rx_query.specs.declared.statements.Item.TheVariants.{Column}
 use Rattle.rx_query.specs.declared.statements.Order.{Order}
+use Rattle.rx_query.specs.Grouping.{grouped}
+use Rattle.rx_query.specs.Questions.{ByWithin, IsQuestion}
 use Rattle.rx_query.specs.Steps.{Question, columns_of_item, columns_listed}
 use Rattle.rx_statement.specs.declared.faults.What.{What}
 use Rattle.rx_statement.specs.declared.faults.What.TheVariants.{NotGrouped}
 use Rattle.rx_statement.specs.Outcomes.{first_given}
 use Rattle.rx_statement.specs.Names.{names_of_item, listed_items, unknown_in_items, unknown_table, unknown_in_hints, count_of_items, is_place, unknown_by, unknown_in_order, unknown_before, unknown_behind, unknown_name}
-use Rattle.rx_statement.specs.Asking.{item_of, every_item, items_of, by_of, order_of, is_usable, is_mismatched, grouped, question_of, if_grouped, if_matched, if_known, asked}
-use Rattle.rx_statement.specs.Questions.{ByWithin, IsQuestion}
+use Rattle.rx_statement.specs.Asking.{item_of, every_item, items_of, by_of, order_of, is_usable, is_mismatched, question_of, if_grouped, if_matched, if_known, asked}
 
 to_all : {A : Type 0} (P : A → Type 0) (xs : List A) → AllByRecursion P xs → All P xs
 to_all P [] h = All-nil P

@@ -27,12 +27,12 @@ use Rattle.rx_query.specs.declared.statements.By.{By}
 use Rattle.rx_query.specs.declared.statements.By.TheVariants as is
 use Rattle.rx_query.specs.declared.statements.Order.{Order}
 use Rattle.rx_query.specs.declared.statements.Select.{Select}
+use Rattle.rx_query.specs.Grouping.{grouped}
 use Rattle.rx_query.specs.Steps.{Question}
 use Rattle.rx_query.specs.Steps as steps
 use Rattle.rx_statement.specs.declared.faults.What.{What}
 use Rattle.rx_statement.specs.declared.faults.What.TheVariants.{UnknownName, TypeMismatch, NotGrouped}
 use Rattle.rx_statement.specs.Names.{listed_items, is_index_named, unknown_name}
-use Rattle.rx_statement.specs.Grouping.{is_grouped}
 
 -- an aggregate of a column
 abbrev pub aggregate_item : Aggregate → ℕ → Item
@@ -113,10 +113,6 @@ question_of schema w = record {
   order = map (order_of schema.columns) w.order;
   usable = map (is_usable w.hints) schema.indexes;
 }
-
--- no column of a question stands for many rows at once
-abbrev pub grouped : Question → Bool
-grouped q = is_grouped q.distinct q.items q.group q.order
 
 -- a question, where its columns are grouped
 abbrev pub if_grouped : Question → Result Question What

@@ -4,7 +4,8 @@ ghost use Rattle.rx_value.specs.Limits.{most_columns};
 ghost use Rattle.rx_where.specs.Kinds.{column_kind};
 ghost use Rattle.rx_query.specs.Steps as steps;
 ghost use Rattle.rx_script.specs.Statements.{written_select};
-ghost use Rattle.rx_statement.specs.Asking.{is_text, sums_text, is_mismatched, grouped, asked, AsksAs};
+ghost use Rattle.rx_query.specs.Grouping.{grouped};
+ghost use Rattle.rx_statement.specs.Asking.{is_text, sums_text, is_mismatched, asked, AsksAs};
 
 use crate::faults::What;
 use crate::grouping::is_grouped;

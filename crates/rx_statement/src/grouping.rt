@@ -1,9 +1,8 @@
 ghost use Rattle.std.specs.Prelude.{◌≡◌};
 ghost use Rattle.std.specs.List.{list_all, list_any};
-ghost use Rattle.rx_query.specs.Steps.{is_column};
-ghost use Rattle.rx_statement.specs.Grouping.{is_among, is_item, is_grouped_item, is_grouped_by, is_selected_by, makes_groups, is_by_group, is_grouped};
+ghost use Rattle.rx_query.specs.Grouping.{is_among, is_item, is_grouped_item, is_grouped_by, is_selected_by, makes_groups, is_by_group, is_grouped};
 
-use rx_query::{By, Item, Order};
+use rx_query::{By, Item, Order, makes_groups};
 
 fn is_among(numbers: &[u32], number: u32) -> bool
     ensures { result ≡ is_among numbers.now number }
@@ -51,24 +50,6 @@ fn is_selected_by(items: &[Item], by: By) -> bool
         By::Column(column) => any_item(items, column),
         By::Place(_) => true,
     }
-}
-
-fn is_column(item: &Item) -> bool
-    ensures { result ≡ is_column item.now }
-{
-    matches!(item, Item::Column(_))
-}
-
-fn all_are_columns(items: &[Item]) -> bool
-    ensures { result ≡ list_all is_column items.now }
-{
-    items.iter().all(|item| is_column(item))
-}
-
-fn makes_groups(items: &[Item], group: &[u32]) -> bool
-    ensures { result ≡ makes_groups items.now group.now }
-{
-    group.len() > 0 || !all_are_columns(items)
 }
 
 fn all_items_grouped(items: &[Item], group: &[u32]) -> bool

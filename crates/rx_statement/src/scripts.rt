@@ -4,7 +4,7 @@ ghost use Rattle.std.specs.Option.{option_map};
 ghost use Rattle.rx_script.specs.Statements.{written_of};
 ghost use Rattle.rx_query.specs.Steps.{request_of, step_of, SelectsWithin};
 ghost use Rattle.rx_statement.specs.Outcomes.{Answers};
-ghost use Rattle.rx_statement.specs.Questions.{IsStep};
+ghost use Rattle.rx_query.specs.Questions.{IsStep};
 ghost use Rattle.rx_statement.specs.Script.{JudgesAs, verdict_of, judged, verdict_if, is_whole, parts_from, outcome_of, read_of};
 
 use crate::asking::asked;
