@@ -1,1 +1,4 @@
 pub mod Chains
+pub mod CutTexts
+pub mod FittingKeys
+pub mod Places

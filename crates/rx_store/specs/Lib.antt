@@ -1,2 +1,4 @@
-pub mod Tables
+pub mod Failing
+pub mod FittingKeys
 pub mod Stored
+pub mod Tables
