@@ -31,6 +31,24 @@ fn names_of(alloc: Global, rt: HostRuntime) -> Result<Vec<String>, Fault> {
     }
 }
 
+// Adds what a run makes.
+fn add_run<'a>(
+    alloc: Global,
+    name: &'a str,
+    words: &'a str,
+    texts: [&'a str; 4],
+    failing: &'a str,
+    into: &mut Bytes,
+) -> Result<(), Fault> {
+    let case = runs::Case {
+        name,
+        words,
+        texts,
+        failing,
+    };
+    runs::add_run(alloc, &case, into)
+}
+
 // Adds what the case of a line makes.
 fn add_case<R: Runtime>(
     alloc: Global,
@@ -41,13 +59,12 @@ fn add_case<R: Runtime>(
     let fields = texts::fields_of(alloc, line)?;
     match fields.as_slice() {
         [kind, name, words, schema, rows, script, failing] if *kind == "run" => {
-            let case = runs::Case {
-                name,
-                words,
-                texts: [schema, rows, script],
-                failing,
-            };
-            runs::add_run(alloc, &case, into)
+            let texts = [*schema, *rows, *script, "-"];
+            add_run(alloc, name, words, texts, failing, into)
+        }
+        [kind, name, words, schema, rows, script, statistics, failing] if *kind == "run" => {
+            let texts = [*schema, *rows, *script, *statistics];
+            add_run(alloc, name, words, texts, failing, into)
         }
         [kind, left, right] if *kind == "spans" => ranges::add_spans(alloc, left, right, into),
         [kind, point, span, keys] if *kind == "range" => {

@@ -13,8 +13,8 @@ pub struct Case<'a> {
     pub name: &'a str,
     /// The words after the program's name.
     pub words: &'a str,
-    /// What the files `schema`, `data` and `script` hold. One that is `-` is missing.
-    pub texts: [&'a str; 3],
+    /// What the files `schema`, `data`, `script` and `statistics` hold. One that is `-` is missing.
+    pub texts: [&'a str; 4],
     /// `files`, `out` or `err` and the number of the call that fails there, from 0, or `-`. A sink that is to fail
     /// takes one byte in a call.
     pub failing: &'a str,
@@ -59,7 +59,8 @@ fn owned_words(alloc: Global, field: &str) -> Result<Vec<String>, AllocError> {
 
 fn files_of(alloc: Global, texts: &[&str], failing: Failing) -> Result<MemFiles, Fault> {
     let mut files = MemFiles::new(alloc);
-    for (name, text) in ["schema", "data", "script"].iter().zip(texts.iter()) {
+    let names = ["schema", "data", "script", "statistics"];
+    for (name, text) in names.iter().zip(texts.iter()) {
         if *text != "-" {
             files.add(name, bytes_of(alloc, text)?.as_slice())?;
         }

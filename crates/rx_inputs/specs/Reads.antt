@@ -1,13 +1,16 @@
 -- The files that are read, and what reading them takes.
-use Rattle.std.specs.Prelude.{ℕ, ◌+◌, Bool, List, [], ◌∷◌, Option, IsTrue}
+use Rattle.std.specs.Prelude.{ℕ, ◌+◌, Bool, List, [], ◌∷◌, ◌++◌, Option, Some, None, option_map, IsTrue}
+use denote.Ref.{Bor}
 use Rattle.rx_value.specs.declared.shapes.Schema.{Schema as TheSchema}
 use Rattle.rx_outside.specs.Files.{most_taken}
+use Rattle.rx_index.specs.declared.indexed.Indexed.{Indexed}
+use Rattle.rx_words.specs.Words.{SelectFiles}
 use Rattle.rx_inputs.specs.declared.inputs.Input.{Input}
-use Rattle.rx_inputs.specs.declared.inputs.Input.TheVariants.{Schema, Data, Script}
+use Rattle.rx_inputs.specs.declared.inputs.Input.TheVariants.{Schema, Data, Statistics, Script}
 use Rattle.rx_inputs.specs.Refusals.{limit_of}
 use Rattle.rx_inputs.specs.Checked.{Checked}
 use Rattle.rx_inputs.specs.Checked.Checked.{Accepts, Refuses, Untold}
-use Rattle.rx_inputs.specs.Files.{Names, schema_of_file, rows_of_file}
+use Rattle.rx_inputs.specs.Files.{schema_of_file, table_of_file, statistics_by}
 
 -- a file by what it is for and its name
 pub record File : Type 0 where
@@ -23,16 +26,34 @@ unless_refused (Accepts a) files next = next a
 unless_refused (Refuses refusal) files next = []
 unless_refused Untold files next = files
 
--- the files that are read after a schema was accepted
-abbrev pub files_behind : (List ℕ → Option (List ℕ)) → Names → TheSchema → List File
-files_behind told names schema =
-    file Data names.rows ∷ unless_refused (rows_of_file schema (told names.rows)) (file Script names.script ∷ []) (λ rows. file Script names.script ∷ [])
+-- the name of a file, where it is given
+abbrev pub name_given : Option (Bor (List ℕ)) → Option (List ℕ)
+name_given name = option_map (λ s. s.now) name
 
--- the files that are read: the schema, the data and the script, up to the first that is refused
-abbrev pub files_read : (List ℕ → Option (List ℕ)) → Names → List File
+-- the file of statistics, where one is named
+abbrev pub statistics_files : Option (List ℕ) → List File
+statistics_files None = []
+statistics_files (Some name) = file Statistics name ∷ []
+
+-- the file of the script alone
+abbrev pub script_file : SelectFiles → List File
+script_file names = file Script names.script ∷ []
+
+-- the files that are read after a table was made
+abbrev pub files_after : (List ℕ → Option (List ℕ)) → SelectFiles → Indexed → List File
+files_after told names t =
+    statistics_files names.statistics ++ unless_refused (statistics_by told names.statistics t) (script_file names) (λ statistics. script_file names)
+
+-- the files that are read after a schema was accepted
+abbrev pub files_behind : (List ℕ → Option (List ℕ)) → SelectFiles → TheSchema → List File
+files_behind told names schema =
+    file Data names.rows ∷ unless_refused (table_of_file schema (told names.rows)) (statistics_files names.statistics ++ script_file names) (files_after told names)
+
+-- the files that are read: the schema, the data, the statistics and the script, up to the first that is refused
+abbrev pub files_read : (List ℕ → Option (List ℕ)) → SelectFiles → List File
 files_read told names =
     file Schema names.schema
-    ∷ unless_refused (schema_of_file (told names.schema)) (file Data names.rows ∷ file Script names.script ∷ []) (files_behind told names)
+    ∷ unless_refused (schema_of_file (told names.schema)) (file Data names.rows ∷ statistics_files names.statistics ++ script_file names) (files_behind told names)
 
 -- no read of these files can fail
 abbrev pub AreSure : (List ℕ → Bool) → List File → Type 0

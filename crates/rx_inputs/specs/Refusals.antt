@@ -1,9 +1,11 @@
 -- Why the words or a file are refused, and the line that says so.
-use Rattle.std.specs.Prelude.{ℕ, List, [], ◌++◌, Option, Some, None, codes}
+use Rattle.std.specs.Prelude.{ℕ, ◌+◌, List, [], ◌++◌, map, Option, Some, None, unwrap_or, codes}
 use Rattle.std.specs.List.{slice_get}
 use Rattle.std.specs.Fmt.{decimal}
 use Rattle.rx_value.specs.declared.shapes.Column.{Column}
+use Rattle.rx_value.specs.declared.shapes.Index.{Index}
 use Rattle.rx_value.specs.declared.shapes.Schema.{Schema as TheSchema}
+use Rattle.rx_load.specs.Duplicates.{Duplicate}
 use Rattle.rx_schema.specs.declared.faults.Which.{Which}
 use Rattle.rx_schema.specs.declared.faults.Which.TheVariants.{ColumnType, Length, Zerofill, Collation, CharacterSet, KeyKind, Prefix}
 use Rattle.rx_schema.specs.declared.faults.Many.{Many}
@@ -17,28 +19,33 @@ use Rattle.rx_statement.specs.declared.faults.What.TheVariants as of_segment
 use Rattle.rx_statement.specs.declared.faults.ScriptFault.{ScriptFault}
 use Rattle.rx_statement.specs.declared.faults.ScriptFault.TheVariants as of_script
 use Rattle.rx_inputs.specs.declared.inputs.Input.{Input}
-use Rattle.rx_inputs.specs.declared.inputs.Input.TheVariants.{Schema, Data, Script}
+use Rattle.rx_inputs.specs.declared.inputs.Input.TheVariants.{Schema, Data, Statistics, Script}
 
 -- why the words or a file are refused
 pub data Refusal : Type 0 where
   words : Refusal
   too_long : Input → Refusal
-  not_built : Input → Refusal
   no_schema : SchemaFault → Refusal
   -- the data of a table with this schema
   no_rows : TheSchema → DataFault → Refusal
+  -- the rows of a table with this schema, of which one repeats a key of a unique index
+  duplicate_key : TheSchema → Duplicate → Refusal
+  -- the field at fault
+  no_statistics : List ℕ → Refusal
   no_script : ScriptFault → Refusal
 
 -- the most bytes of a file
 abbrev pub limit_of : Input → ℕ
 limit_of Schema = 1048576
 limit_of Data = 33554432
+limit_of Statistics = 1048576
 limit_of Script = 1048576
 
 -- how a file is called
 abbrev pub name_of : Input → List ℕ
 name_of Schema = codes "schema"
 name_of Data = codes "data"
+name_of Statistics = codes "statistics"
 name_of Script = codes "script"
 
 -- how a refusal calls what is outside the profile
@@ -73,6 +80,22 @@ named_line front name = front ++ name ++ codes "\n"
 -- a front, a row, the name of a column and the end of the line
 abbrev pub field_line : List ℕ → ℕ → List ℕ → List ℕ
 field_line front row name = front ++ decimal row ++ codes " column " ++ name ++ codes "\n"
+
+-- a name by its number from 0, and nothing where there is none
+abbrev pub name_at : List (List ℕ) → ℕ → List ℕ
+name_at names n = unwrap_or (slice_get names n) []
+
+-- the name of an index by its number from 0
+abbrev pub index_name : List Index → ℕ → List ℕ
+index_name indexes n = name_at (map (λ index. index.name) indexes) n
+
+-- what the refusal of data says of a row, from 1, that repeats a key of an index
+abbrev pub duplicate_line : List ℕ → ℕ → List ℕ
+duplicate_line name row = codes "refused: data: duplicate key: index " ++ name ++ codes " row " ++ decimal row ++ codes "\n"
+
+-- how the refusal of statistics begins
+abbrev pub statistics_front : List ℕ
+statistics_front = codes "refused: statistics: "
 
 -- what the refusal of a schema says
 abbrev pub schema_line : SchemaFault → List ℕ
@@ -121,7 +144,8 @@ script_line of_script.NoMemory = codes "out of memory\n"
 abbrev pub line_of_refusal : Refusal → List ℕ
 line_of_refusal words = codes "refused: words\n"
 line_of_refusal (too_long input) = codes "refused: " ++ name_of input ++ codes ": too long\n"
-line_of_refusal (not_built input) = codes "refused: not built: " ++ name_of input ++ codes "\n"
 line_of_refusal (no_schema fault) = schema_line fault
 line_of_refusal (no_rows schema fault) = data_line schema.columns fault
+line_of_refusal (duplicate_key schema d) = duplicate_line (index_name schema.indexes d.index) (d.row + 1)
+line_of_refusal (no_statistics field) = named_line statistics_front field
 line_of_refusal (no_script fault) = script_line fault

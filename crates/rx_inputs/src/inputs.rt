@@ -6,6 +6,7 @@ ghost use Rattle.rx_inputs.specs.Refusals.{limit_of};
 pub enum Input {
     Schema,
     Data,
+    Statistics,
     Script,
 }
 
@@ -17,15 +18,8 @@ impl Input {
         match self {
             Input::Schema => 1048576,
             Input::Data => 33554432,
+            Input::Statistics => 1048576,
             Input::Script => 1048576,
         }
     }
-}
-
-/// The names of the files of a command.
-#[derive(Clone, Copy)]
-pub struct FileNames<'a> {
-    pub schema: &'a str,
-    pub data: &'a str,
-    pub script: &'a str,
 }

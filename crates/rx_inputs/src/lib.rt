@@ -3,10 +3,9 @@
 
 mod inputs;
 mod lines;
-mod plain;
 mod reading;
 mod script_lines;
 
-pub use inputs::{FileNames, Input};
+pub use inputs::Input;
 pub use lines::words_line;
 pub use reading::{InputFault, Inputs, read_inputs};

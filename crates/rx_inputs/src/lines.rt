@@ -1,12 +1,12 @@
-ghost use Rattle.std.specs.Prelude.{◌≡◌, IfOk};
+ghost use Rattle.std.specs.Prelude.{◌≡◌, IfOk, map};
 ghost use Rattle.std.specs.Fmt.{decimal};
-ghost use Rattle.rx_inputs.specs.Refusals.{words, too_long, not_built, line_of_refusal, which_text, many_text, column_name, named_line, field_line, schema_line, data_line};
+ghost use Rattle.rx_inputs.specs.Refusals.{words, too_long, line_of_refusal, which_text, many_text, column_name, named_line, field_line, name_at, duplicate_line, statistics_front, schema_line, data_line};
 
 use crate::inputs::Input;
 use itoa::Buffer;
 use rx_data::DataFault;
 use rx_schema::{Many, SchemaFault, Which};
-use rx_value::{Bytes, Column};
+use rx_value::{Bytes, Column, Index, NameList};
 use std::alloc::{AllocError, Global};
 
 /// The line of words that are no command.
@@ -23,18 +23,8 @@ pub(crate) fn too_long_line(input: Input) -> &'static [u8]
     match input {
         Input::Schema => b"refused: schema: too long\n",
         Input::Data => b"refused: data: too long\n",
+        Input::Statistics => b"refused: statistics: too long\n",
         Input::Script => b"refused: script: too long\n",
-    }
-}
-
-/// The line of a file in a form that isn't built.
-pub(crate) fn not_built_line(input: Input) -> &'static [u8]
-    ensures { result.now ≡ line_of_refusal (not_built input) }
-{
-    match input {
-        Input::Schema => b"refused: not built: schema\n",
-        Input::Data => b"refused: not built: data\n",
-        Input::Script => b"refused: not built: script\n",
     }
 }
 
@@ -151,4 +141,49 @@ pub(crate) fn data_line(
         DataFault::TooManyRows => Bytes::of(alloc, b"refused: data: too many rows\n"),
         DataFault::NoMemory => Bytes::of(alloc, b"out of memory\n"),
     }
+}
+
+/// The names of indexes. The error is want of memory.
+pub(crate) fn names_of(alloc: Global, indexes: &[Index]) -> Result<NameList, AllocError>
+    ensures { IfOk result (λ names. names ≡ map (λ index. index.name) indexes.now) }
+{
+    let mut names = NameList::with_capacity(alloc, indexes.len())?;
+    for index in indexes {
+        names.push(Bytes::of(alloc, index.name.as_slice())?)?;
+    }
+    Ok(names)
+}
+
+// A name by its number from 0.
+fn name_at(names: &[Bytes], number: u32) -> &[u8]
+    ensures { result.now ≡ name_at names.now number }
+{
+    match names.get(number as usize) {
+        Some(name) => name.as_slice(),
+        None => b"",
+    }
+}
+
+/// The line of data in which a row, counted from 1, repeats a key of a unique index. The error is want of memory.
+pub(crate) fn duplicate_line(
+    alloc: Global,
+    names: &[Bytes],
+    index: u32,
+    row: u64,
+) -> Result<Bytes, AllocError>
+    ensures { IfOk result (λ line. line ≡ duplicate_line (name_at names.now index) row) }
+{
+    let mut line = Bytes::of(alloc, b"refused: data: duplicate key: index ")?;
+    line.append(name_at(names, index))?;
+    line.append(b" row ")?;
+    line.append(Buffer::new().format(row).as_bytes())?;
+    line.push(b'\n')?;
+    Ok(line)
+}
+
+/// The line of refused statistics. The error is want of memory.
+pub(crate) fn statistics_line(alloc: Global, field: &[u8]) -> Result<Bytes, AllocError>
+    ensures { IfOk result (λ line. line ≡ named_line statistics_front field.now) }
+{
+    named_line(alloc, b"refused: statistics: ", field)
 }

@@ -1,34 +1,44 @@
-ghost use Rattle.std.specs.Prelude.{◌≡◌, ◌≤◌, ◌||◌, IsTrue, IfOk, IfErr, All, length, map};
-ghost use Rattle.std.specs.List.{list_any};
+ghost use Rattle.std.specs.Prelude.{◌≡◌, ◌≤◌, IsTrue, IfOk, IfErr, All, length, map};
 ghost use Rattle.rx_value.specs.Limits.{most_columns, most_rows};
 ghost use Rattle.rx_value.specs.Shape.{IsSchema, FitsRow};
 ghost use Rattle.rx_outside.specs.Files.{KeepsFiles, TakesUpTo, most_taken};
-ghost use Rattle.rx_query.specs.Steps.{step_of, SelectsWithin};
+ghost use Rattle.rx_index.specs.Entries.{IsEntered};
+ghost use Rattle.rx_stats.specs.Statistics.{IsStatistics};
+ghost use Rattle.rx_load.specs.Numbers.{statistics_of};
+ghost use Rattle.rx_query.specs.Steps.{step_of};
+ghost use Rattle.rx_query.specs.Questions.{IsStep};
 ghost use Rattle.rx_store.specs.Stored.{IsStorable};
+ghost use Rattle.rx_words.specs.Words.{files_of};
 ghost use Rattle.rx_inputs.specs.Refusals.{limit_of};
 ghost use Rattle.rx_inputs.specs.Checked.{text_of_file, AcceptsAs};
-ghost use Rattle.rx_inputs.specs.Files.{schema_of_file, rows_of_file, steps_of_file, named, held_by, contents_by};
-ghost use Rattle.rx_inputs.specs.Reads.{files_read, files_behind, AreSure, most_bytes};
-ghost use Rattle.rx_inputs.specs.Faults.{StopsReading, held, content};
+ghost use Rattle.rx_inputs.specs.Files.{schema_of_file, rows_of_file, table_of_rows, table_of_file, statistics_of_file, statistics_by, steps_of_file, rest_by, contents_by, held_by};
+ghost use Rattle.rx_inputs.specs.Reads.{name_given, statistics_files, files_read, files_behind, files_after, AreSure, most_bytes};
+ghost use Rattle.rx_inputs.specs.Faults.{StopsReading, held};
 ghost use Rattle.rx_inputs.specs.declared.inputs.Input.TheVariants as of_input;
 
-use crate::inputs::{FileNames, Input};
-use crate::lines::{data_line, not_built_line, schema_line, too_long_line};
-use crate::plain::are_plain;
+use crate::inputs::Input;
+use crate::lines::{
+    data_line, duplicate_line, names_of, schema_line, statistics_line, too_long_line,
+};
 use crate::script_lines::script_line;
 use rx_data::DataFault;
+use rx_index::{IndexFault, Indexed};
+use rx_load::{load, statistics};
 use rx_outside::{FileFault, Files, read_whole};
 use rx_query::Script;
 use rx_schema::SchemaFault;
 use rx_statement::ScriptFault;
-use rx_value::{Bytes, Index, RowList, Schema};
+use rx_stats::Statistics;
+use rx_stats_file::{StatsFault, read_stats};
+use rx_value::{Bytes, RowList, Schema};
+use rx_words::SelectWords;
 use std::alloc::{AllocError, Global};
 
-/// What the files of a command hold.
+/// What the files of a command hold: a table with its entries, its statistics, and the script.
 #[derive(Drop)]
 pub struct Inputs {
-    pub schema: Schema,
-    pub rows: RowList,
+    pub table: Indexed,
+    pub statistics: Statistics,
     pub script: Script,
 }
 
@@ -53,15 +63,8 @@ impl From<AllocError> for InputFault {
     }
 }
 
-/// What stands in the files besides the schema.
-#[derive(Drop)]
-struct Contents {
-    rows: RowList,
-    script: Script,
-}
-
-/// Reads and checks the files of a command, one after the other: schema, data, script. The first refusal ends it
-/// before the next file is read.
+/// Reads and checks the files of a command, one after the other: schema, data with its indexes, statistics where they are named,
+/// script. The first refusal ends it before the next file is read.
 ///
 /// - `ReadFault`: a read failed, and the count of faults of `files` rose.
 /// - `Refused`: the line of the first refusal.
@@ -69,46 +72,68 @@ struct Contents {
 pub fn read_inputs<F: Files>(
     alloc: Global,
     files: &mut F,
-    names: &FileNames<'_>,
+    names: &SelectWords<'_>,
 ) -> Result<Inputs, InputFault>
-    ensures accepted { IfOk result (λ i. AcceptsAs (held_by (F.told files.old) (named names.now)) (held i)) }
-    ensures storable { IfOk result (λ i. IsStorable i.schema i.rows) }
-    ensures within { IfOk result (λ i. All (SelectsWithin (length i.schema.columns)) i.script) }
-    ensures stopped { IfErr result (StopsReading (held_by (F.told files.old) (named names.now)) (F.faults files.old) (F.faults files.new)) }
+    ensures accepted { IfOk result (λ i. AcceptsAs (held_by (F.told files.old) (files_of names.now)) (held i)) }
+    ensures storable { IfOk result (λ i. IsStorable i.table i.statistics) }
+    ensures asks { IfOk result (λ i. All (λ numbered. IsStep i.table.schema (step_of numbered)) i.script) }
+    ensures stopped { IfErr result (StopsReading (held_by (F.told files.old) (files_of names.now)) (F.faults files.old) (F.faults files.new)) }
     ensures later { F.faults files.old ≤ F.faults files.new }
-    ensures sure { AreSure (F.sure files.old) (files_read (F.told files.old) (named names.now)) → F.faults files.new ≡ F.faults files.old }
-    ensures taken { TakesUpTo (most_bytes (F.told files.old) (files_read (F.told files.old) (named names.now))) (F.taken files.old) (F.taken files.new) }
+    ensures sure { AreSure (F.sure files.old) (files_read (F.told files.old) (files_of names.now)) → F.faults files.new ≡ F.faults files.old }
+    ensures taken { TakesUpTo (most_bytes (F.told files.old) (files_read (F.told files.old) (files_of names.now))) (F.taken files.old) (F.taken files.new) }
     ensures keeps { KeepsFiles F.told F.sure F.room files.old files.new }
 {
     let schema = read_schema(alloc, files, names.schema)?;
-    let Contents { rows, script } = read_contents(alloc, files, &schema, names)?;
-    Ok(Inputs {
-        schema,
-        rows,
-        script,
-    })
+    read_contents(alloc, files, schema, names)
 }
 
 // Reads and checks the files behind the schema.
 fn read_contents<F: Files>(
     alloc: Global,
     files: &mut F,
-    schema: &Schema,
-    names: &FileNames<'_>,
-) -> Result<Contents, InputFault>
-    requires { IsSchema schema.now }
-    ensures accepted { IfOk result (λ c. AcceptsAs (contents_by (F.told files.old) (named names.now) schema.now) (content c)) }
-    ensures storable { IfOk result (λ c. IsStorable schema.now c.rows) }
-    ensures within { IfOk result (λ c. All (SelectsWithin (length schema.now.columns)) c.script) }
-    ensures stopped { IfErr result (StopsReading (contents_by (F.told files.old) (named names.now) schema.now) (F.faults files.old) (F.faults files.new)) }
+    schema: Schema,
+    names: &SelectWords<'_>,
+) -> Result<Inputs, InputFault>
+    requires { IsSchema schema }
+    ensures accepted { IfOk result (λ i. AcceptsAs (contents_by (F.told files.old) (files_of names.now) schema) (held i)) }
+    ensures storable { IfOk result (λ i. IsStorable i.table i.statistics) }
+    ensures asks { IfOk result (λ i. All (λ numbered. IsStep i.table.schema (step_of numbered)) i.script) }
+    ensures stopped { IfErr result (StopsReading (contents_by (F.told files.old) (files_of names.now) schema) (F.faults files.old) (F.faults files.new)) }
     ensures later { F.faults files.old ≤ F.faults files.new }
-    ensures sure { AreSure (F.sure files.old) (files_behind (F.told files.old) (named names.now) schema.now) → F.faults files.new ≡ F.faults files.old }
-    ensures taken { TakesUpTo (most_bytes (F.told files.old) (files_behind (F.told files.old) (named names.now) schema.now)) (F.taken files.old) (F.taken files.new) }
+    ensures sure { AreSure (F.sure files.old) (files_behind (F.told files.old) (files_of names.now) schema) → F.faults files.new ≡ F.faults files.old }
+    ensures taken { TakesUpTo (most_bytes (F.told files.old) (files_behind (F.told files.old) (files_of names.now) schema)) (F.taken files.old) (F.taken files.new) }
     ensures keeps { KeepsFiles F.told F.sure F.room files.old files.new }
 {
-    let rows = read_rows(alloc, files, schema, names.data)?;
-    let script = read_script(alloc, files, schema, names.script)?;
-    Ok(Contents { rows, script })
+    let table = read_table(alloc, files, schema, names.data)?;
+    read_rest(alloc, files, table, names)
+}
+
+// Reads and checks the files behind the data.
+fn read_rest<F: Files>(
+    alloc: Global,
+    files: &mut F,
+    table: Indexed,
+    names: &SelectWords<'_>,
+) -> Result<Inputs, InputFault>
+    requires limits { IsSchema table.schema }
+    requires entered { IsEntered table }
+    requires fit { All (FitsRow table.schema) table.rows }
+    ensures accepted { IfOk result (λ i. AcceptsAs (rest_by (F.told files.old) (files_of names.now) table) (held i)) }
+    ensures storable { IfOk result (λ i. IsStorable i.table i.statistics) }
+    ensures asks { IfOk result (λ i. All (λ numbered. IsStep i.table.schema (step_of numbered)) i.script) }
+    ensures stopped { IfErr result (StopsReading (rest_by (F.told files.old) (files_of names.now) table) (F.faults files.old) (F.faults files.new)) }
+    ensures later { F.faults files.old ≤ F.faults files.new }
+    ensures sure { AreSure (F.sure files.old) (files_after (F.told files.old) (files_of names.now) table) → F.faults files.new ≡ F.faults files.old }
+    ensures taken { TakesUpTo (most_bytes (F.told files.old) (files_after (F.told files.old) (files_of names.now) table)) (F.taken files.old) (F.taken files.new) }
+    ensures keeps { KeepsFiles F.told F.sure F.room files.old files.new }
+{
+    let statistics = statistics_by(alloc, files, &table, names.statistics)?;
+    let script = read_script(alloc, files, &table.schema, names.script)?;
+    Ok(Inputs {
+        table,
+        statistics,
+        script,
+    })
 }
 
 fn read_schema<F: Files>(alloc: Global, files: &mut F, name: &str) -> Result<Schema, InputFault>
@@ -121,25 +146,14 @@ fn read_schema<F: Files>(alloc: Global, files: &mut F, name: &str) -> Result<Sch
     ensures keeps { KeepsFiles F.told F.sure F.room files.old files.new }
 {
     let text = read_text(alloc, files, name, Input::Schema)?;
-    let schema = match rx_schema::read_schema(alloc, text.as_slice()) {
-        Ok(schema) => schema,
-        Err(SchemaFault::NoMemory) => return Err(InputFault::NoMemory),
+    match rx_schema::read_schema(alloc, text.as_slice()) {
+        Ok(schema) => Ok(schema),
+        Err(SchemaFault::NoMemory) => Err(InputFault::NoMemory),
         Err(fault) => {
             let line = schema_line(alloc, &fault)?;
-            return Err(InputFault::Refused { line });
+            Err(InputFault::Refused { line })
         }
-    };
-    if has_unique_key(schema.indexes.as_slice()) {
-        let line = Bytes::of(alloc, not_built_line(Input::Schema))?;
-        return Err(InputFault::Refused { line });
     }
-    Ok(schema)
-}
-
-fn has_unique_key(indexes: &[Index]) -> bool
-    ensures { result ≡ list_any (λ index. index.primary || index.unique) indexes.now }
-{
-    indexes.iter().any(|index| index.primary || index.unique)
 }
 
 fn read_rows<F: Files>(
@@ -169,6 +183,103 @@ fn read_rows<F: Files>(
     }
 }
 
+// The table of rows.
+fn table_of_rows(alloc: Global, schema: Schema, rows: RowList) -> Result<Indexed, InputFault>
+    requires limits { IsSchema schema }
+    requires few { length rows ≤ most_rows }
+    requires fit { All (FitsRow schema) rows }
+    ensures accepted { IfOk result (AcceptsAs (table_of_rows schema rows)) }
+    ensures limits { IfOk result (λ t. IsSchema t.schema) }
+    ensures entered { IfOk result IsEntered }
+    ensures fit { IfOk result (λ t. All (FitsRow t.schema) t.rows) }
+    ensures stopped { IfErr result (StopsReading (table_of_rows schema rows) 0 0) }
+{
+    let names = names_of(alloc, schema.indexes.as_slice())?;
+    match load(alloc, schema, rows) {
+        Ok(table) => Ok(table),
+        Err(IndexFault::NoMemory) => Err(InputFault::NoMemory),
+        Err(IndexFault::DuplicateKey { index, row }) => {
+            let line = duplicate_line(alloc, names.as_slice(), index, row)?;
+            Err(InputFault::Refused { line })
+        }
+    }
+}
+
+// Reads the data, and makes the table of its rows.
+fn read_table<F: Files>(
+    alloc: Global,
+    files: &mut F,
+    schema: Schema,
+    name: &str,
+) -> Result<Indexed, InputFault>
+    requires { IsSchema schema }
+    ensures accepted { IfOk result (AcceptsAs (table_of_file schema (F.told files.old name.now))) }
+    ensures limits { IfOk result (λ t. IsSchema t.schema) }
+    ensures entered { IfOk result IsEntered }
+    ensures fit { IfOk result (λ t. All (FitsRow t.schema) t.rows) }
+    ensures stopped { IfErr result (StopsReading (table_of_file schema (F.told files.old name.now)) (F.faults files.old) (F.faults files.new)) }
+    ensures later { F.faults files.old ≤ F.faults files.new }
+    ensures sure { IsTrue (F.sure files.old name.now) → F.faults files.new ≡ F.faults files.old }
+    ensures taken { TakesUpTo (most_taken (F.told files.old name.now) (limit_of of_input.Data)) (F.taken files.old) (F.taken files.new) }
+    ensures keeps { KeepsFiles F.told F.sure F.room files.old files.new }
+{
+    let rows = read_rows(alloc, files, &schema, name)?;
+    table_of_rows(alloc, schema, rows)
+}
+
+// The statistics of a table: its own, with those of a file in their place where one is named.
+fn statistics_by<F: Files>(
+    alloc: Global,
+    files: &mut F,
+    table: &Indexed,
+    name: Option<&str>,
+) -> Result<Statistics, InputFault>
+    requires limits { IsSchema table.now.schema }
+    requires entered { IsEntered table.now }
+    ensures accepted { IfOk result (AcceptsAs (statistics_by (F.told files.old) (name_given name.entry) table.now)) }
+    ensures suits { IfOk result (IsStatistics table.now.schema) }
+    ensures stopped { IfErr result (StopsReading (statistics_by (F.told files.old) (name_given name.entry) table.now) (F.faults files.old) (F.faults files.new)) }
+    ensures later { F.faults files.old ≤ F.faults files.new }
+    ensures sure { AreSure (F.sure files.old) (statistics_files (name_given name.entry)) → F.faults files.new ≡ F.faults files.old }
+    ensures taken { TakesUpTo (most_bytes (F.told files.old) (statistics_files (name_given name.entry))) (F.taken files.old) (F.taken files.new) }
+    ensures keeps { KeepsFiles F.told F.sure F.room files.old files.new }
+{
+    let base = statistics(alloc, table)?;
+    match name {
+        None => Ok(base),
+        Some(name) => read_statistics(alloc, files, table, base, name),
+    }
+}
+
+fn read_statistics<F: Files>(
+    alloc: Global,
+    files: &mut F,
+    table: &Indexed,
+    base: Statistics,
+    name: &str,
+) -> Result<Statistics, InputFault>
+    requires limits { IsSchema table.now.schema }
+    requires suits { IsStatistics table.now.schema base }
+    requires own { base ≡ statistics_of table.now }
+    ensures accepted { IfOk result (AcceptsAs (statistics_of_file table.now (F.told files.old name.now))) }
+    ensures suits { IfOk result (IsStatistics table.now.schema) }
+    ensures stopped { IfErr result (StopsReading (statistics_of_file table.now (F.told files.old name.now)) (F.faults files.old) (F.faults files.new)) }
+    ensures later { F.faults files.old ≤ F.faults files.new }
+    ensures sure { IsTrue (F.sure files.old name.now) → F.faults files.new ≡ F.faults files.old }
+    ensures taken { TakesUpTo (most_taken (F.told files.old name.now) (limit_of of_input.Statistics)) (F.taken files.old) (F.taken files.new) }
+    ensures keeps { KeepsFiles F.told F.sure F.room files.old files.new }
+{
+    let text = read_text(alloc, files, name, Input::Statistics)?;
+    match read_stats(alloc, text.as_slice(), &table.schema, base) {
+        Ok(statistics) => Ok(statistics),
+        Err(StatsFault::NoMemory) => Err(InputFault::NoMemory),
+        Err(StatsFault::BadStats { field }) => {
+            let line = statistics_line(alloc, field.as_slice())?;
+            Err(InputFault::Refused { line })
+        }
+    }
+}
+
 fn read_script<F: Files>(
     alloc: Global,
     files: &mut F,
@@ -177,7 +288,7 @@ fn read_script<F: Files>(
 ) -> Result<Script, InputFault>
     requires { length schema.now.columns ≤ most_columns }
     ensures accepted { IfOk result (λ s. AcceptsAs (steps_of_file schema.now (F.told files.old name.now)) (map step_of s)) }
-    ensures within { IfOk result (All (SelectsWithin (length schema.now.columns))) }
+    ensures asks { IfOk result (All (λ numbered. IsStep schema.now (step_of numbered))) }
     ensures stopped { IfErr result (StopsReading (steps_of_file schema.now (F.told files.old name.now)) (F.faults files.old) (F.faults files.new)) }
     ensures later { F.faults files.old ≤ F.faults files.new }
     ensures sure { IsTrue (F.sure files.old name.now) → F.faults files.new ≡ F.faults files.old }
@@ -185,19 +296,14 @@ fn read_script<F: Files>(
     ensures keeps { KeepsFiles F.told F.sure F.room files.old files.new }
 {
     let text = read_text(alloc, files, name, Input::Script)?;
-    let script = match rx_statement::read_script(alloc, text.as_slice(), schema) {
-        Ok(script) => script,
-        Err(ScriptFault::NoMemory) => return Err(InputFault::NoMemory),
+    match rx_statement::read_script(alloc, text.as_slice(), schema) {
+        Ok(script) => Ok(script),
+        Err(ScriptFault::NoMemory) => Err(InputFault::NoMemory),
         Err(fault) => {
             let line = script_line(alloc, &fault)?;
-            return Err(InputFault::Refused { line });
+            Err(InputFault::Refused { line })
         }
-    };
-    if !are_plain(&script) {
-        let line = Bytes::of(alloc, not_built_line(Input::Script))?;
-        return Err(InputFault::Refused { line });
     }
-    Ok(script)
 }
 
 // The text of a file within its limit.

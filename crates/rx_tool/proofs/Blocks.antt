@@ -1,26 +1,22 @@
 -- The blocks of a script, one step after another.
-use Rattle.std.proofs.Common.{◌≡◌, ◌≤◌, ℕ, ◌+◌, List, [], ◌∷◌, ◌++◌, take, length, Option, Some, None, IfSome, refl, ap, sym, subst, ◌∙◌, arith, append_assoc, min, map, drop, get_or, ◌<◌, suc, add-one, length-append}
+use Rattle.std.proofs.Common.{◌≡◌, ◌≤◌, ℕ, ◌+◌, List, [], ◌∷◌, ◌++◌, take, length, Option, Some, None, refl, ap, sym, subst, ◌∙◌, arith, append_assoc, min, map, drop, get_or, ◌<◌, suc, add-one, length-append}
 use Rattle.std.specs.List.{concat}
 use Rattle.std.proofs.lemmas.List.{append-nil, take-append-le, take_min}
 use Rattle.std.proofs.Math.Seq.{drop-cons}
 use Rattle.std.proofs.lemmas.List.Folds.{concat-append}
-use Rattle.rx_value.specs.declared.values.Value.{Value}
-use Rattle.rx_value.specs.Counting.{Rose}
-use Rattle.rx_outside.specs.Sink.{Takes, IsFront, TakesFront, LeavesRoom}
+use Rattle.rx_outside.specs.Sink.{Takes, LeavesRoom}
 use Rattle.rx_outside.proofs.Chains.{LeavesRoom-chain}
 use Rattle.rx_query.specs.Steps.{Step}
 use Rattle.rx_query.specs.Settings.{settings_after}
 use Rattle.rx_query.specs.declared.settings.Settings.{Settings}
 use Rattle.rx_store.specs.declared.tables.Counts.{Counts}
 use Rattle.rx_store.specs.Tables.{Meaning, WhereTold}
-use Rattle.rx_tool.specs.declared.engine.SelectFault.{SelectFault}
-use Rattle.rx_tool.specs.declared.engine.SelectFault.TheVariants.{ReadFault, WriteFault, Damaged, NoMemory}
-use Rattle.rx_tool.specs.Seen.{SinkSeen}
+use Rattle.rx_engine.specs.declared.engine.SelectFault.{SelectFault}
+use Rattle.rx_engine.specs.declared.engine.SelectFault.TheVariants.{ReadFault, WriteFault, Damaged, NoMemory}
+use Rattle.rx_engine.specs.Seen.{SinkSeen}
+use Rattle.rx_engine.proofs.Blocks.{told, told_then, told_both, Takes-nothing}
 use Rattle.rx_tool.specs.Blocks.{counts_after, counts_after_request}
-use Rattle.rx_store.specs.declared.tables.TableFault.{TableFault}
-use Rattle.rx_store.specs.declared.tables.TableFault.TheVariants as of_table
-use Rattle.rx_tool.specs.Select.{table_fault, select_fault}
-use Rattle.rx_tool.specs.Running.{PutsSome, PutsFront, Puts, Stops, StopsWriting, StopsBetween, HasRoom, size_of}
+use Rattle.rx_engine.specs.Running.{PutsSome, PutsFront, Puts, Stops, StopsBetween, HasRoom, size_of}
 
 -- The blocks that were put and those that are to come are all, and the room fell by the bytes of those that were put.
 pub record PutsSoFar (all rest : List (List ℕ)) (old new : SinkSeen) : Type 0 where
@@ -28,23 +24,6 @@ pub record PutsSoFar (all rest : List (List ℕ)) (old new : SinkSeen) : Type 0 
   pub split : all ≡ done ++ rest
   pub put : Takes old.text new.text (concat done)
   pub room : LeavesRoom old.room new.room (size_of done)
-
--- what holds of any rows, and what follows from one or two facts, where rows are told
-told : {P : Type 0} (o : Option (List (List Value))) → P → IfSome o (λ rows. P)
-told None p = tt
-told (Some rows) p = p
-
-told_then : {P Q : Type 0} (o : Option (List (List Value))) → (P → Q) → IfSome o (λ rows. P) → IfSome o (λ rows. Q)
-told_then None f p = tt
-told_then (Some rows) f p = f p
-
-told_both : {P Q R : Type 0} (o : Option (List (List Value))) → (P → Q → R) → IfSome o (λ rows. P) → IfSome o (λ rows. Q) → IfSome o (λ rows. R)
-told_both None f p q = tt
-told_both (Some rows) f p q = f p q
-
-pub Takes-nothing : (t : Option (List ℕ)) → Takes t t []
-Takes-nothing None = refl
-Takes-nothing (Some t) = ap Some (sym (append-nil t))
 
 Takes-then : (a b c : Option (List ℕ)) (xs ys : List ℕ) → Takes a b xs → Takes b c ys → Takes a c (xs ++ ys)
 Takes-then None b c xs ys p q = rw (q, p) refl
@@ -99,7 +78,7 @@ leaves_all (Some r) = (r, refl, omega arith)
 
 -- nothing was put yet
 pub puts-none : (table : Meaning) (all : List (List ℕ)) (s : SinkSeen) → WhereTold table (PutsSoFar all all s s)
-puts-none table all s = told table.rows (record { done = []; split = refl; put = Takes-nothing s.text; room = leaves_all s.room })
+puts-none table all s = told table.told (record { done = []; split = refl; put = Takes-nothing s.text; room = leaves_all s.room })
 
 more_put : (all here rest : List (List ℕ)) (a b c : SinkSeen) → PutsSoFar all (here ++ rest) a b → Takes b.text c.text (concat here) × LeavesRoom b.room c.room (size_of here) → PutsSoFar all rest a c
 more_put all here rest a b c p q = record {
@@ -115,13 +94,13 @@ both_put here b c t r = (t, r)
 -- a step was run after others
 pub puts-more : (table : Meaning) (all here rest : List (List ℕ)) (a b c : SinkSeen) → WhereTold table (PutsSoFar all (here ++ rest) a b) → Puts table here b c → WhereTold table (PutsSoFar all rest a c)
 puts-more table all here rest a b c p q =
-    told_both table.rows (more_put all here rest a b c) p (told_both table.rows (both_put here b c) q.text q.room)
+    told_both table.told (more_put all here rest a b c) p (told_both table.told (both_put here b c) q.text q.room)
 
 -- no block is to come
 pub puts-all : (table : Meaning) (all : List (List ℕ)) (a b : SinkSeen) → WhereTold table (PutsSoFar all [] a b) → b.faults ≡ a.faults → Puts table all a b
 puts-all table all a b p same = record {
-  text = told_then table.rows (λ s. subst (λ (bs : List (List ℕ)). Takes a.text b.text (concat bs)) (sym (s.split ∙ append-nil s.done)) s.put) p;
-  room = told_then table.rows (λ s. subst (λ (bs : List (List ℕ)). LeavesRoom a.room b.room (size_of bs)) (sym (s.split ∙ append-nil s.done)) s.room) p;
+  text = told_then table.told (λ s. subst (λ (bs : List (List ℕ)). Takes a.text b.text (concat bs)) (sym (s.split ∙ append-nil s.done)) s.put) p;
+  room = told_then table.told (λ s. subst (λ (bs : List (List ℕ)). LeavesRoom a.room b.room (size_of bs)) (sym (s.split ∙ append-nil s.done)) s.room) p;
   no_fault = same;
 }
 
@@ -135,7 +114,7 @@ room_left all here rest a b p none (r, is, fits) =
 
 between : (table : Meaning) (all here rest : List (List ℕ)) (a b c : SinkSeen) → WhereTold table (PutsSoFar all (here ++ rest) a b) → b.faults ≡ a.faults → StopsBetween table here b c → StopsBetween table all a c
 between table all here rest a b c p same q = record {
-  some = told_both table.rows (λ s t. puts_some s.done here rest all a.text b.text c.text s.put s.split t) p q.some;
+  some = told_both table.told (λ s t. puts_some s.done here rest all a.text b.text c.text s.put s.split t) p q.some;
   no_fault = q.no_fault ∙ same;
 }
 
@@ -150,8 +129,8 @@ stops-after table all here rest a b c WriteFault p same q =
     record {
       rose = omega (arith, same, rose);
       later = omega (arith, same, later);
-      front = told_both table.rows (λ s f. puts_front s.done here rest all a.text b.text c.text s.put s.split f) p q.front;
-      no_room = told_both table.rows (λ s n. room_left all here rest a b s n) p q.no_room;
+      front = told_both table.told (λ s f. puts_front s.done here rest all a.text b.text c.text s.put s.split f) p q.front;
+      no_room = told_both table.told (λ s n. room_left all here rest a b s n) p q.no_room;
     }
 
 -- the counts after one step more
@@ -163,43 +142,4 @@ counts-more table means settings left rest step b c all is so_far same counted =
 
 -- a step that puts nothing
 pub puts_nothing : (table : Meaning) (s : SinkSeen) → Puts table [] s s
-puts_nothing table s = record { text = told table.rows (Takes-nothing s.text); room = told table.rows (leaves_all s.room); no_fault = refl }
-
--- the text of a block was put
-pub puts_block : (table : Meaning) (block text : List ℕ) (a b : SinkSeen) → WhereTold table (text ≡ block) → Takes a.text b.text text → LeavesRoom a.room b.room (length text) → b.faults ≡ a.faults → Puts table (block ∷ []) a b
-puts_block table block text a b is taken left same = record {
-  text = told_then table.rows (λ e. subst (λ (t : List ℕ). Takes a.text b.text t) (e ∙ sym (append-nil block)) taken) is;
-  room = told_then table.rows (λ e. subst (λ (t : List ℕ). LeavesRoom a.room b.room (length t)) (e ∙ sym (append-nil block)) left) is;
-  no_fault = same;
-}
-
-front_put : (block text : List ℕ) (a b : SinkSeen) → TakesFront a.text b.text a.room b.room text → text ≡ block → PutsFront (block ∷ []) a.text b.text
-front_put block text a b f e =
-    let same : text ≡ concat (block ∷ []) = e ∙ sym (append-nil block) in
-    (f.front, subst (λ (t : List ℕ). IsFront f.front t) same f.is_front, subst (λ (t : List ℕ). length f.front < length t) same f.short, f.text)
-
-no_room_for : (block text : List ℕ) (a : SinkSeen) → ((r : ℕ) → a.room ≡ Some r → length text ≤ r → ⊥) → text ≡ block → HasRoom a.room (size_of (block ∷ [])) → ⊥
-no_room_for block text a none e (r, is, fits) = none r is (omega (arith, fits, ap length (e ∙ sym (append-nil block))))
-
--- a put of a block's text failed
-pub cut_block : (table : Meaning) (block text : List ℕ) (a b : SinkSeen) → WhereTold table (text ≡ block) → TakesFront a.text b.text a.room b.room text → Rose a.faults b.faults → a.faults ≤ b.faults → ((r : ℕ) → a.room ≡ Some r → length text ≤ r → ⊥) → StopsWriting table (block ∷ []) a b
-cut_block table block text a b is front rose later none = record {
-  rose = rose;
-  later = later;
-  front = told_then table.rows (front_put block text a b front) is;
-  no_room = told_then table.rows (no_room_for block text a none) is;
-}
-
-between-none : (table : Meaning) (blocks : List (List ℕ)) (s : SinkSeen) → StopsBetween table blocks s s
-between-none table blocks s = record { some = told table.rows (0, Takes-nothing s.text); no_fault = refl }
-
--- where the table has a fault nothing was put
-pub stops_untouched : (table : Meaning) (blocks : List (List ℕ)) (s : SinkSeen) (fault : TableFault) → Stops table blocks s s (select_fault fault)
-stops_untouched table blocks s of_table.ReadFault = between-none table blocks s
-stops_untouched table blocks s (of_table.Damaged at) = between-none table blocks s
-stops_untouched table blocks s of_table.NoMemory = between-none table blocks s
-
-pub table_fault_of : (fault : TableFault) → table_fault (select_fault fault) ≡ Some fault
-table_fault_of of_table.ReadFault = refl
-table_fault_of (of_table.Damaged at) = refl
-table_fault_of of_table.NoMemory = refl
+puts_nothing table s = record { text = told table.told (Takes-nothing s.text); room = told table.told (leaves_all s.room); no_fault = refl }

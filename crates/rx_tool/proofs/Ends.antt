@@ -6,9 +6,10 @@ use Rattle.rx_tool.specs.declared.stops.Status.{Status}
 use Rattle.rx_tool.specs.declared.stops.Status.TheVariants as status
 use Rattle.rx_tool.specs.declared.stops.Stop.{Stop}
 use Rattle.rx_tool.specs.declared.stops.Stop.TheVariants.{ReadFault, WriteFault, Words, Refused, NoMemory}
-use Rattle.rx_tool.specs.Seen.{SinkSeen, Outside}
+use Rattle.rx_engine.specs.Seen.{SinkSeen}
+use Rattle.rx_tool.specs.Seen.{Outside}
 use Rattle.rx_tool.specs.Stops.{Tells, IsTold, line_of, status_of}
-use Rattle.rx_tool.specs.Running.{HasRoom}
+use Rattle.rx_engine.specs.Running.{HasRoom}
 use Rattle.rx_tool.specs.Owes.{Outcome, Owes}
 use Rattle.rx_tool.specs.Ending.{Ends, Hands, StopsRun, RefusedAt, IsAccepted, IsFaultless, HasRoomForLine, longest_fixed, refusal_line}
 

@@ -1,7 +1,9 @@
 -- What the files of a script owe, read and run.
-use Rattle.std.proofs.Common.{◌≡◌, ◌≤◌, arith, ℕ, List, Option, Some, Result, Ok, Err, IfErr, IfOk, OnOk, subst, sym, inl, inr, refl, ap, ◌∙◌}
-use Rattle.rx_value.specs.declared.values.Value.{Value}
-use Rattle.rx_value.specs.declared.shapes.Schema.{Schema}
+use Rattle.std.proofs.Common.{◌≡◌, ◌≤◌, arith, ℕ, List, Option, Some, None, Result, Ok, Err, IfErr, IfOk, OnOk, subst, sym, inl, inr, refl, ap, ◌∙◌}
+use Rattle.rx_index.specs.declared.indexed.Indexed.{Indexed}
+use Rattle.rx_value.specs.Counting.{rise}
+use Rattle.rx_store.specs.Tables.{Meaning}
+use Rattle.rx_tool.specs.Seen.{FilesSeen}
 use Rattle.rx_store.specs.declared.tables.Counts.{Counts}
 use Rattle.rx_store.specs.Stored.{Stored, in_memory, no_counts}
 use Rattle.rx_query.specs.Settings.{default_settings}
@@ -14,15 +16,15 @@ use Rattle.rx_inputs.specs.Files.{Held}
 use Rattle.rx_inputs.specs.Reads.{File}
 use Rattle.rx_tool.specs.declared.stops.Stop.{Stop}
 use Rattle.rx_tool.specs.declared.stops.Stop.TheVariants.{ReadFault, WriteFault, Words, Refused, NoMemory}
-use Rattle.rx_tool.specs.Seen.{SinkSeen}
+use Rattle.rx_engine.specs.Seen.{SinkSeen}
 use Rattle.rx_tool.specs.Blocks.{blocks_of, counts_after}
-use Rattle.rx_tool.specs.Running.{Puts, StopsWriting, StopsBetween, HasRoom, size_of}
+use Rattle.rx_engine.specs.Running.{Puts, StopsWriting, StopsBetween, HasRoom, size_of}
 use Rattle.rx_tool.specs.Stops.{stop_of}
-use Rattle.rx_tool.specs.Owes.{outcome_of, script_owes, table_of, table_after}
+use Rattle.rx_tool.specs.Owes.{Outcome, Owes, outcome_of, script_owes, table_of, table_after}
 use Rattle.rx_tool.specs.Ending.{StopsRun, HasRoomForText}
-use Rattle.rx_tool.specs.Work.{StopsScript, WorkEnds}
-use Rattle.rx_tool.proofs.Blocks.{Takes-nothing}
-use Rattle.rx_tool.proofs.Headline.{counts_are_sums}
+use Rattle.rx_tool.specs.Work.{IsWork, StopsScript, WorkEnds}
+use Rattle.rx_engine.proofs.Blocks.{Takes-nothing}
+use Rattle.rx_tool.proofs.Sums.{counts_are_sums}
 
 -- where files aren't read, nothing is put
 pub reading_stops : (checked : Checked Held) (before after : ℕ) (sink : SinkSeen) (f : InputFault) → StopsReading checked before after f → StopsRun (outcome_of checked) before after sink sink (stop_of f)
@@ -95,29 +97,50 @@ room_owed Untold held room e h = absurd h
 pub calm_accepted : (checked : Checked Held) (held : Held) (old new : SinkSeen) (r : Result Stored Stop) → AcceptsAs checked held → OnOk r (Puts (table_of held) (blocks_of held.steps (table_of held)) old new) → IfErr r (StopsScript held old new) → HasRoomForText (outcome_of checked) old.room → new.faults ≡ old.faults
 calm_accepted checked held old new r e puts stopped h = script_calm held old new r puts stopped (room_owed checked held old.room e h)
 
-abbrev pub the_table : Schema → List (List Value) → Counts → Stored
-the_table schema rows counts = record { schema = schema; rows = rows; counts = counts }
+abbrev pub the_table : Indexed → List (List ℕ) → Counts → Stored
+the_table t statistics counts = record { table = t; statistics = statistics; counts = counts }
 
-same_table : (s s' : Schema) (r r' : List (List Value)) (c c' : Counts) → s ≡ s' → r ≡ r' → c ≡ c' → the_table s r c ≡ the_table s' r' c'
-same_table s s' r r' c c' p q t = rw (p, q, t) refl
+same_table : (t t' : Indexed) (s s' : List (List ℕ)) (c c' : Counts) → t ≡ t' → s ≡ s' → c ≡ c' → the_table t s c ≡ the_table t' s' c'
+same_table t t' s s' c c' p q e = rw (p, q, e) refl
 
-some_same : (xs ys : List (List Value)) → Some xs ≡ Some ys → xs ≡ ys
-some_same xs ys e = cc e
+some_same : (a b : Indexed) → Some a ≡ Some b → a ≡ b
+some_same a b e = cc e
+
+abbrev pub meaning_of : Stored → Meaning
+meaning_of s = in_memory s.table s.statistics
 
 -- a table on which a script ran is the one that is owed
-pub table_so : (old new : Stored) (held : Held) → old ≡ the_table held.schema held.rows no_counts → new.schema ≡ old.schema → Some new.rows ≡ Some old.rows → new.counts ≡ counts_after default_settings held.steps (in_memory old.schema old.rows) old.counts → new ≡ table_after held
-table_so old new held is schema rows counts =
+pub table_so : (old new : Stored) (held : Held) → old ≡ the_table held.table held.statistics no_counts → meaning_of new ≡ meaning_of old → new.counts ≡ counts_after default_settings held.steps (meaning_of old) old.counts → new ≡ table_after held
+table_so old new held is same counts =
     same_table _ _ _ _ _ _
-    (schema ∙ ap (λ (t : Stored). t.schema) is)
-    (some_same _ _ rows ∙ ap (λ (t : Stored). t.rows) is)
-    (counts ∙ ap (λ (t : Stored). counts_after default_settings held.steps (in_memory t.schema t.rows) t.counts) is ∙ counts_are_sums default_settings held.steps (table_of held) no_counts)
+    (some_same _ _ (ap (λ (m : Meaning). m.told) same) ∙ ap (λ (s : Stored). s.table) is)
+    (ap (λ (m : Meaning). m.statistics) same ∙ ap (λ (s : Stored). s.statistics) is)
+    (counts ∙ ap (λ (s : Stored). counts_after default_settings held.steps (meaning_of s) s.counts) is ∙ counts_are_sums default_settings held.steps (table_of held) no_counts)
 
 -- what is put of the blocks of that table is put of what is owed
-pub puts_held : (t : Stored) (held : Held) (a b : SinkSeen) → t ≡ the_table held.schema held.rows no_counts → Puts (in_memory t.schema t.rows) (blocks_of held.steps (in_memory t.schema t.rows)) a b → Puts (table_of held) (blocks_of held.steps (table_of held)) a b
-puts_held t held a b is = subst (λ (s : Stored). Puts (in_memory s.schema s.rows) (blocks_of held.steps (in_memory s.schema s.rows)) a b) is
+pub puts_held : (t : Stored) (held : Held) (a b : SinkSeen) → t ≡ the_table held.table held.statistics no_counts → Puts (meaning_of t) (blocks_of held.steps (meaning_of t)) a b → Puts (table_of held) (blocks_of held.steps (table_of held)) a b
+puts_held t held a b is = subst (λ (s : Stored). Puts (meaning_of s) (blocks_of held.steps (meaning_of s)) a b) is
 
-pub writing_held : (t : Stored) (held : Held) (a b : SinkSeen) → t ≡ the_table held.schema held.rows no_counts → StopsWriting (in_memory t.schema t.rows) (blocks_of held.steps (in_memory t.schema t.rows)) a b → StopsWriting (table_of held) (blocks_of held.steps (table_of held)) a b
-writing_held t held a b is = subst (λ (s : Stored). StopsWriting (in_memory s.schema s.rows) (blocks_of held.steps (in_memory s.schema s.rows)) a b) is
+pub writing_held : (t : Stored) (held : Held) (a b : SinkSeen) → t ≡ the_table held.table held.statistics no_counts → StopsWriting (meaning_of t) (blocks_of held.steps (meaning_of t)) a b → StopsWriting (table_of held) (blocks_of held.steps (table_of held)) a b
+writing_held t held a b is = subst (λ (s : Stored). StopsWriting (meaning_of s) (blocks_of held.steps (meaning_of s)) a b) is
 
-pub between_held : (t : Stored) (held : Held) (a b : SinkSeen) → t ≡ the_table held.schema held.rows no_counts → StopsBetween (in_memory t.schema t.rows) (blocks_of held.steps (in_memory t.schema t.rows)) a b → StopsBetween (table_of held) (blocks_of held.steps (table_of held)) a b
-between_held t held a b is = subst (λ (s : Stored). StopsBetween (in_memory s.schema s.rows) (blocks_of held.steps (in_memory s.schema s.rows)) a b) is
+pub between_held : (t : Stored) (held : Held) (a b : SinkSeen) → t ≡ the_table held.table held.statistics no_counts → StopsBetween (meaning_of t) (blocks_of held.steps (meaning_of t)) a b → StopsBetween (table_of held) (blocks_of held.steps (table_of held)) a b
+between_held t held a b is = subst (λ (s : Stored). StopsBetween (meaning_of s) (blocks_of held.steps (meaning_of s)) a b) is
+
+rise_zero : (n : ℕ) → n ≡ rise 0 n
+rise_zero n = grind arith
+
+-- where memory runs out before the words are read nothing was done
+pub nothing_done : (owes : Owes) (files : FilesSeen) (sink : SinkSeen) → IsWork owes files files sink sink (Err NoMemory)
+nothing_done owes files sink = record {
+  ends = by owes.outcome;
+  sure = λ h. refl;
+  calm = λ h. refl;
+  taken = (0, omega arith, rise_zero files.taken);
+  files_later = omega arith;
+  out_later = omega arith;
+}
+  where
+    by : (o : Option Outcome) → StopsRun o files.faults files.faults sink sink NoMemory
+    by None = tt
+    by (Some outcome) = (0, Takes-nothing sink.text)

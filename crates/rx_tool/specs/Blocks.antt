@@ -1,31 +1,15 @@
 -- The blocks of a script, and what its run counts.
-use Rattle.std.specs.Prelude.{ℕ, List, [], ◌∷◌, ◌++◌, if◌then◌else◌}
+use Rattle.std.specs.Prelude.{ℕ, List, [], ◌∷◌, ◌++◌}
 use Rattle.std.specs.List.{sum_by}
 use Rattle.rx_store.specs.declared.tables.Counts.{Counts}
 use Rattle.rx_store.specs.Stored.{no_counts}
 use Rattle.rx_store.specs.Tables.{Meaning, add_counts}
-use Rattle.rx_query.specs.Steps.{Step, Request, Question}
+use Rattle.rx_query.specs.Steps.{Step, Request}
 use Rattle.rx_query.specs.Steps.Request.{select, change}
 use Rattle.rx_query.specs.declared.settings.Settings.{Settings}
 use Rattle.rx_query.specs.Settings.{default_settings, settings_after}
-use Rattle.rx_rows.specs.Answer.{answer}
-use Rattle.rx_rows.specs.Lines.{block_of}
-use Rattle.rx_tool.specs.declared.candidates.Candidate.{Candidate}
-use Rattle.rx_tool.specs.Candidates.{candidates_of, chosen_place, chosen, visited, reads_of}
-use Rattle.rx_tool.specs.Trace.{trace_line}
-
--- the line of the trace, where that is on
-abbrev pub trace_of : Settings → ℕ → List Candidate → ℕ → Counts → List ℕ
-trace_of settings number all place reads = if settings.trace then trace_line number all place 0 reads else []
-
--- the trace of the statement with this number
-abbrev pub trace_part : Settings → ℕ → Question → Meaning → List ℕ
-trace_part settings number q table =
-    trace_of settings number (candidates_of settings q table) (chosen_place (candidates_of settings q table)) (reads_of settings q table)
-
--- The block of a question: what it answers over the rows in the order in which the chosen candidate reads them, and the trace.
-abbrev pub block_for : Settings → ℕ → Question → Meaning → List ℕ
-block_for settings number q table = block_of (answer q (visited (chosen settings q table) table)) ++ trace_part settings number q table
+use Rattle.rx_engine.specs.Candidates.{reads_of}
+use Rattle.rx_engine.specs.Blocks.{block_for}
 
 -- what a request puts, as the statement of this number
 abbrev pub blocks_of_request : Settings → ℕ → Request → Meaning → List (List ℕ)

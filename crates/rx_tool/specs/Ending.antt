@@ -10,9 +10,10 @@ use Rattle.rx_tool.specs.declared.stops.Status.{Status}
 use Rattle.rx_tool.specs.declared.stops.Status.TheVariants as status
 use Rattle.rx_tool.specs.declared.stops.Stop.{Stop}
 use Rattle.rx_tool.specs.declared.stops.Stop.TheVariants.{ReadFault, WriteFault, Words, Refused, NoMemory}
-use Rattle.rx_tool.specs.Seen.{SinkSeen, Outside}
+use Rattle.rx_engine.specs.Seen.{SinkSeen}
+use Rattle.rx_tool.specs.Seen.{Outside}
 use Rattle.rx_tool.specs.Stops.{line_of}
-use Rattle.rx_tool.specs.Running.{PutsAll, PutsSome, PutsFront, HasRoom}
+use Rattle.rx_engine.specs.Running.{PutsAll, PutsSome, PutsFront, HasRoom}
 use Rattle.rx_tool.specs.Owes.{Outcome, Owes, output}
 
 -- the blocks that come before a refusal: none where the files aren't told, since only they are refused

@@ -1,14 +1,6 @@
 pub mod Blocks
-pub mod Candidates
 pub mod Ending
-pub mod Headline
 pub mod Owes
-pub mod Plan
-pub mod Printed
-pub mod Running
 pub mod Seen
-pub mod Select
 pub mod Stops
-pub mod Trace
-pub mod Words
 pub mod Work

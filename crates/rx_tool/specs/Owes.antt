@@ -6,11 +6,11 @@ use Rattle.rx_store.specs.Tables.{Meaning, add_counts}
 use Rattle.rx_inputs.specs.Refusals.{Refusal, words}
 use Rattle.rx_inputs.specs.Checked.{Checked}
 use Rattle.rx_inputs.specs.Checked.Checked.{Accepts, Refuses, Untold}
-use Rattle.rx_inputs.specs.Files.{Names, Held, held_by}
+use Rattle.rx_inputs.specs.Files.{Held, held_by}
 use Rattle.rx_inputs.specs.Reads.{File, files_read}
 use Rattle.rx_tool.specs.Blocks.{blocks_of, reads_of_script}
-use Rattle.rx_tool.specs.Words.{Task, task_of}
-use Rattle.rx_tool.specs.Words.Task.{select}
+use Rattle.rx_words.specs.Words.{SelectFiles, Task, task_of}
+use Rattle.rx_words.specs.Words.Task.{select}
 
 -- What comes of a command: the blocks that it puts on the output; the tables that it hands back; and, where it is refused, before the
 -- first block or in the middle of its script, the refusal that comes behind the blocks.
@@ -30,12 +30,12 @@ refused refusal = record { blocks = []; first = None; second = None; refusal = S
 
 -- the table of accepted inputs
 abbrev pub table_of : Held → Meaning
-table_of held = in_memory held.schema held.rows
+table_of held = in_memory held.table held.statistics
 
 -- that table when its script ran: its counts are what was read, summed over the script
 abbrev pub table_after : Held → Stored
 table_after held =
-    record { schema = held.schema; rows = held.rows; counts = add_counts (reads_of_script held.steps (table_of held)) no_counts }
+    record { table = held.table; statistics = held.statistics; counts = add_counts (reads_of_script held.steps (table_of held)) no_counts }
 
 -- an accepted script is run whole over its table, which is handed back
 abbrev pub script_run : Held → Outcome
@@ -60,8 +60,8 @@ pub record Owes : Type 0 where
 abbrev pub script_owes : List File → Checked Held → Owes
 script_owes files checked = record { files = files; hands_first = true; hands_second = false; outcome = outcome_of checked }
 
--- `select SCHEMA DATA SCRIPT`
-abbrev pub select_owes : (List ℕ → Option (List ℕ)) → Names → Owes
+-- `select SCHEMA DATA SCRIPT [--stats FILE]`
+abbrev pub select_owes : (List ℕ → Option (List ℕ)) → SelectFiles → Owes
 select_owes told names = script_owes (files_read told names) (held_by told names)
 
 -- what a task owes, and words that are none

@@ -5,7 +5,7 @@ use Rattle.rx_outside.specs.Sink.{Takes, IsFront}
 use Rattle.rx_inputs.specs.Refusals.{words, line_of_refusal}
 use Rattle.rx_inputs.specs.declared.reading.InputFault.{InputFault}
 use Rattle.rx_inputs.specs.declared.reading.InputFault.TheVariants as of_input
-use Rattle.rx_tool.specs.Seen.{SinkSeen}
+use Rattle.rx_engine.specs.Seen.{SinkSeen}
 use Rattle.rx_tool.specs.declared.stops.Status.{Status}
 use Rattle.rx_tool.specs.declared.stops.Status.TheVariants as status
 use Rattle.rx_tool.specs.declared.stops.Stop.{Stop}

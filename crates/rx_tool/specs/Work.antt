@@ -7,9 +7,10 @@ use Rattle.rx_inputs.specs.Reads.{AreSure, most_bytes}
 use Rattle.rx_tool.specs.declared.stops.Status.TheVariants as status
 use Rattle.rx_tool.specs.declared.stops.Stop.{Stop}
 use Rattle.rx_tool.specs.declared.stops.Stop.TheVariants.{ReadFault, WriteFault, Words, Refused, NoMemory}
-use Rattle.rx_tool.specs.Seen.{FilesSeen, SinkSeen}
+use Rattle.rx_engine.specs.Seen.{SinkSeen}
+use Rattle.rx_tool.specs.Seen.{FilesSeen}
 use Rattle.rx_tool.specs.Blocks.{blocks_of}
-use Rattle.rx_tool.specs.Running.{StopsWriting, StopsBetween}
+use Rattle.rx_engine.specs.Running.{StopsWriting, StopsBetween}
 use Rattle.rx_tool.specs.Owes.{Owes, table_of}
 use Rattle.rx_tool.specs.Ending.{PutsWhole, StopsRun, Hands, HasRoomForText}
 

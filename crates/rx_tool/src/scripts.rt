@@ -2,12 +2,12 @@ ghost use Rattle.std.specs.Prelude.{◌≡◌, None, IfOk, IfErr, OnOk, map};
 ghost use Rattle.rx_store.specs.Tables.{Keeps};
 ghost use Rattle.rx_query.specs.Steps.{step_of};
 ghost use Rattle.rx_query.specs.Settings.{default_settings, settings_after};
-ghost use Rattle.rx_tool.specs.Seen.{sink_seen};
+ghost use Rattle.rx_engine.specs.Seen.{sink_seen};
 ghost use Rattle.rx_tool.specs.Blocks.{blocks_of, blocks_of_step, counts_after, counts_after_request};
-ghost use Rattle.rx_tool.specs.Running.{Puts, Stops};
-ghost use Rattle.rx_tool.specs.Select.{table_fault};
+ghost use Rattle.rx_engine.specs.Running.{Puts, Stops};
+ghost use Rattle.rx_engine.specs.Select.{table_fault};
 
-use crate::engine::{SelectFault, select};
+use rx_engine::{SelectFault, select};
 use rx_outside::Sink;
 use rx_query::{Numbered, Script, Settings, Statement, apply};
 use rx_store::Table;
@@ -26,8 +26,8 @@ pub(crate) fn run_script<T: Table, O: Sink>(
         (sink_seen O.text O.faults O.room out.old) (sink_seen O.text O.faults O.room out.new)) }
     ensures counts { OnOk result
         ((T.tally table.new).counts ≡ counts_after default_settings (map step_of script.now) (T.means table.old) (T.tally table.old).counts) }
-    ensures keeps { OnOk result (Keeps T.means T.tally T.leaves None table.old table.new) }
-    ensures cause { IfErr result (λ f. Keeps T.means T.tally T.leaves (table_fault f) table.old table.new) }
+    ensures keeps { OnOk result (Keeps T.means T.tally T.kept T.spent None table.old table.new) }
+    ensures cause { IfErr result (λ f. Keeps T.means T.tally T.kept T.spent (table_fault f) table.old table.new) }
 {
     let mut settings = Settings::new();
     for numbered in script.as_slice() {
@@ -55,8 +55,8 @@ fn run_statement<T: Table, O: Sink>(
         (sink_seen O.text O.faults O.room out.old) (sink_seen O.text O.faults O.room out.new)) }
     ensures counts { OnOk result
         ((T.tally table.new).counts ≡ counts_after_request settings (step_of numbered.now).request (T.means table.old) (T.tally table.old).counts) }
-    ensures keeps { OnOk result (Keeps T.means T.tally T.leaves None table.old table.new) }
-    ensures cause { IfErr result (λ f. Keeps T.means T.tally T.leaves (table_fault f) table.old table.new) }
+    ensures keeps { OnOk result (Keeps T.means T.tally T.kept T.spent None table.old table.new) }
+    ensures cause { IfErr result (λ f. Keeps T.means T.tally T.kept T.spent (table_fault f) table.old table.new) }
 {
     match &numbered.statement {
         Statement::Query(query) => match select(

@@ -1,8 +1,8 @@
 ghost use Rattle.std.specs.Prelude.{◌≡◌, ◌≢◌, ◌≤◌, length};
-ghost use Rattle.rx_tool.specs.Seen.{sink_seen};
+ghost use Rattle.rx_engine.specs.Seen.{sink_seen};
 ghost use Rattle.rx_tool.specs.Stops.{line_of, status_of, stop_of, Tells};
 ghost use Rattle.rx_tool.specs.declared.stops.Stop.TheVariants.{Words as words_stop, NoMemory as memory_stop};
-ghost use Rattle.rx_tool.specs.Running.{HasRoom};
+ghost use Rattle.rx_engine.specs.Running.{HasRoom};
 
 use rx_inputs::{InputFault, words_line};
 use rx_outside::{Sink, write_all};

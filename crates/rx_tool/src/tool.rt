@@ -1,22 +1,23 @@
 ghost use Rattle.std.specs.Prelude.{◌≡◌, IfOk, IfErr, OnOk, map, string_bytes};
 ghost use Rattle.rx_outside.specs.Files.{KeepsFiles};
 ghost use Rattle.rx_store.specs.Stored.{IsStorable};
-ghost use Rattle.rx_inputs.specs.Files.{named};
 ghost use Rattle.rx_inputs.specs.Faults.{held};
+ghost use Rattle.rx_words.specs.Words.{files_of};
 ghost use Rattle.rx_tool.specs.Blocks.{blocks_of};
-ghost use Rattle.rx_tool.specs.Running.{Puts};
-ghost use Rattle.rx_tool.specs.Seen.{files_seen, sink_seen, outside};
+ghost use Rattle.rx_engine.specs.Running.{Puts};
+ghost use Rattle.rx_engine.specs.Seen.{sink_seen};
+ghost use Rattle.rx_tool.specs.Seen.{files_seen, outside};
 ghost use Rattle.rx_tool.specs.Owes.{owed, select_owes, table_of, table_after};
 ghost use Rattle.rx_tool.specs.Ending.{IsRun};
 ghost use Rattle.rx_tool.specs.Work.{IsWork, StopsScript};
 
-use crate::engine::SelectFault;
 use crate::scripts::run_script;
 use crate::stops::{Status, Stop, tell};
-use crate::words::{Command, command_of};
-use rx_inputs::{FileNames, Inputs, read_inputs};
+use rx_engine::SelectFault;
+use rx_inputs::{Inputs, read_inputs};
 use rx_outside::{Files, Sink};
 use rx_store::MemTable;
+use rx_words::{Command, SelectWords, command_of};
 use std::alloc::Global;
 
 /// How a run ended, and what it hands back.
@@ -82,22 +83,21 @@ fn work<F: Files, O: Sink>(
         (sink_seen O.text O.faults O.room out.old) (sink_seen O.text O.faults O.room out.new) result }
     ensures keeps { KeepsFiles F.told F.sure F.room files.old files.new }
 {
-    let Some(command) = command_of(words) else {
-        return Err(Stop::Words);
-    };
-    match command {
-        Command::Select(names) => run_select(alloc, files, &names, out),
+    match command_of(alloc, words) {
+        Ok(Some(Command::Select(names))) => run_select(alloc, files, &names, out),
+        Ok(None) => Err(Stop::Words),
+        Err(_) => Err(Stop::NoMemory),
     }
 }
 
-// Reads the schema, the data and the script, and runs the script over the table.
+// Reads the schema, the data, the statistics and the script, and runs the script over the table.
 fn run_select<F: Files, O: Sink>(
     alloc: Global,
     files: &mut F,
-    names: &FileNames<'_>,
+    names: &SelectWords<'_>,
     out: &mut O,
 ) -> Result<MemTable, Stop>
-    ensures work { IsWork (select_owes (F.told files.old) (named names.now))
+    ensures work { IsWork (select_owes (F.told files.old) (files_of names.now))
         (files_seen F.told F.sure F.taken F.faults files.old) (files_seen F.told F.sure F.taken F.faults files.new)
         (sink_seen O.text O.faults O.room out.old) (sink_seen O.text O.faults O.room out.new) result }
     ensures keeps { KeepsFiles F.told F.sure F.room files.old files.new }
@@ -112,7 +112,7 @@ fn run_select<F: Files, O: Sink>(
 // Runs the script of the inputs over their table.
 #[tactic(auto, using(crate::proofs::Owed::puts_held, crate::proofs::Owed::writing_held, crate::proofs::Owed::between_held))]
 fn run_inputs<O: Sink>(alloc: Global, read: Inputs, out: &mut O) -> Result<MemTable, Stop>
-    requires { IsStorable read.schema read.rows }
+    requires { IsStorable read.table read.statistics }
     ensures puts { OnOk result (Puts (table_of (held read)) (blocks_of (held read).steps (table_of (held read)))
         (sink_seen O.text O.faults O.room out.old) (sink_seen O.text O.faults O.room out.new)) }
     ensures table { IfOk result (λ table. table ≡ table_after (held read)) }
@@ -120,11 +120,11 @@ fn run_inputs<O: Sink>(alloc: Global, read: Inputs, out: &mut O) -> Result<MemTa
         (sink_seen O.text O.faults O.room out.old) (sink_seen O.text O.faults O.room out.new)) }
 {
     let Inputs {
-        schema,
-        rows,
+        table,
+        statistics,
         script,
     } = read;
-    let mut table = MemTable::of_rows(schema, rows);
+    let mut table = MemTable::new(table, statistics);
     match run_script(alloc, &script, &mut table, out) {
         Ok(()) => Ok(table),
         Err(SelectFault::WriteFault) => Err(Stop::WriteFault),

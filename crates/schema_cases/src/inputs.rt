@@ -1,14 +1,16 @@
 use crate::texts::bytes_of;
 use case_lines::Fault;
-use rx_inputs::{FileNames, InputFault, read_inputs};
+use rx_inputs::{InputFault, read_inputs};
 use rx_outside::MemFiles;
+use rx_words::SelectWords;
 use std::alloc::{AllocError, Global};
 
 // The names of the files of a case.
-const NAMES: FileNames<'static> = FileNames {
+const NAMES: SelectWords<'static> = SelectWords {
     schema: "schema",
     data: "data",
     script: "script",
+    statistics: None,
 };
 
 // Files with these contents in turn; where there are fewer, the last ones are missing.

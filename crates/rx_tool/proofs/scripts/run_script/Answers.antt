@@ -2,7 +2,6 @@ use Rattle.std.proofs.Common.{arith, ◌+◌, ◌∙◌, drop, map}
 use Rattle.rx_store.proofs.Chains.{Keeps-chain}
 use Rattle.rx_query.specs.Steps.{step_of}
 use Rattle.rx_query.specs.Settings.{settings_after}
-use Rattle.rx_tool.specs.Seen.{sink_seen}
 use Rattle.rx_tool.specs.Blocks.{blocks_of, blocks_of_step, blocks_from}
 use Rattle.rx_tool.proofs.Blocks.{step_there, puts-more, stops-after, counts-more}
 use Rattle.rx_tool.proofs.scripts.run_script.Goals as goal
@@ -33,8 +32,8 @@ loop-numbered-preserved g c =
           (blocks_from (settings_after c.loop-numbered.settings step) (map step_of (drop (c.loop-numbered.numbered-index + 1) items)) table) _ _ _ put more);
       no_fault = more.no_fault ∙ here.no_fault;
       counts = rw c.in-Ok.ensures.settings (counts-more table _ c.loop-numbered.settings _ (map step_of (drop (c.loop-numbered.numbered-index + 1) items)) step _ _ _ there here.counts here.keeps.means_stays c.in-Ok.ensures.counts);
-      keeps = Keeps-chain g.met.T.Table.leaves_chain _ _ _ _ here.keeps c.in-Ok.ensures.keeps;
+      keeps = Keeps-chain g.met.T.Table.kept_chained g.met.T.Table.spent_chained _ _ _ _ here.keeps c.in-Ok.ensures.keeps;
     }
 
 pub returns-in-Err-clause-cause : goal.returns-in-Err-clause-cause
-returns-in-Err-clause-cause g c = Keeps-chain g.met.T.Table.leaves_chain _ _ _ _ c.loop-numbered.invariant.keeps c.in-Err.ensures.cause
+returns-in-Err-clause-cause g c = Keeps-chain g.met.T.Table.kept_chained g.met.T.Table.spent_chained _ _ _ _ c.loop-numbered.invariant.keeps c.in-Err.ensures.cause

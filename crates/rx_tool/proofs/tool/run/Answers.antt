@@ -1,6 +1,7 @@
 use Rattle.std.proofs.Common.{map}
 use Rattle.std.specs.Prelude.{string_bytes}
-use Rattle.rx_tool.specs.Seen.{files_seen, sink_seen, outside}
+use Rattle.rx_engine.specs.Seen.{sink_seen}
+use Rattle.rx_tool.specs.Seen.{files_seen, outside}
 use Rattle.rx_tool.specs.Owes.{owed}
 use Rattle.rx_tool.proofs.Ends.{stopped_ends, stopped_hands, stopped_complete, line_has_room}
 use Rattle.rx_tool.proofs.tool.run.Goals as goal

@@ -1,14 +1,15 @@
 use Rattle.rx_inputs.specs.Faults.{held}
-use Rattle.rx_inputs.specs.Files.{named, held_by}
+use Rattle.rx_inputs.specs.Files.{held_by}
+use Rattle.rx_words.specs.Words.{files_of}
 use Rattle.rx_inputs.specs.Reads.{files_read}
-use Rattle.rx_tool.specs.Seen.{sink_seen}
+use Rattle.rx_engine.specs.Seen.{sink_seen}
 use Rattle.rx_tool.proofs.Owed.{script_ends, script_later, calm_accepted}
 use Rattle.rx_tool.proofs.tool.run_select.Goals as goal
 
 pub returns-clause-work : goal.returns-clause-work
 returns-clause-work g c =
     let told = g.F.Files.told c.args.files.now in
-    let names = named c.args.names.now in
+    let names = files_of c.args.names.now in
     let read = held c.in-Ok.read in
     let old = sink_seen g.O.Sink.text g.O.Sink.faults g.O.Sink.room c.args.out.now in
     let new = sink_seen g.O.Sink.text g.O.Sink.faults g.O.Sink.room c.run_inputs.new.out in

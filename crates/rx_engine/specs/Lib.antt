@@ -1,0 +1,9 @@
+pub mod Blocks
+pub mod Candidates
+pub mod Headline
+pub mod Plan
+pub mod Printed
+pub mod Running
+pub mod Seen
+pub mod Select
+pub mod Trace
