@@ -14,3 +14,4 @@ pub mod Entries
 pub mod Marks
 pub mod Standing
 pub mod Bits
+pub mod Between

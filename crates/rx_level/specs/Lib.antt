@@ -4,3 +4,4 @@ pub mod Store
 pub mod Step
 pub mod Under
 pub mod Standing
+pub mod Between

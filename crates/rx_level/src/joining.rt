@@ -1,18 +1,26 @@
 //! Levels that are put together.
 
-ghost use Rattle.std.specs.Prelude.{◌≡◌, ◌≤◌, ◌+◌, ◌-◌, ◌*◌, ℕ, List, [], ◌∷◌, Option, Some, None, IfOk, OnErr};
+ghost use Rattle.std.specs.Prelude.{◌≡◌, ◌≤◌, ◌+◌, ◌-◌, ◌*◌, ℕ, true, List, [], ◌∷◌, Option, Some, None, IfOk, OnErr};
 ghost use Rattle.slab.specs.Slab.{slab_len};
 ghost use Rattle.rx_tree.specs.Tree.{Level};
 ghost use Rattle.rx_tree.specs.Join.{join_level};
 ghost use Rattle.rx_tree.specs.Tree.Level.{item as one_item};
-ghost use Rattle.rx_level.specs.Tree.{IsHeight};
+ghost use Rattle.rx_level.specs.Tree.{IsHeight, IsNear};
 ghost use Rattle.rx_level.specs.Step.{Owns, Step, level_of, tall_of, between};
 
 use crate::balance::{raise_left, raise_right};
 use crate::levels::Levels;
-use crate::links::Owned;
+use crate::links::{Link, Owned};
 use crate::trees::Item;
 use std::alloc::AllocError;
+
+/// Whether neither of two levels is more than one higher than the other.
+pub(crate) fn are_near(levels: &Levels, left: Link, right: Link) -> bool
+    ensures { result ≡ true → IsNear (tall_of levels.now left) (tall_of levels.now right) }
+{
+    let (before, after) = (levels.height(left), levels.height(right));
+    before.saturating_sub(after) <= 1 && after.saturating_sub(before) <= 1
+}
 
 /// An item between two levels of any heights. The three handles are spent in every case. The error is
 /// want of memory.
@@ -24,6 +32,10 @@ pub fn join(levels: &mut Levels, left: Owned, item: Item, right: Owned) -> Resul
     ensures live { slab_len levels.new ≤ slab_len levels.old + 3 * ((tall_of levels.old left - tall_of levels.old right) + (tall_of levels.old right - tall_of levels.old left)) + 1 }
     ensures err { OnErr result (Step levels.old levels.new (item.child ∷ left ∷ right ∷ []) []) }
 {
+    if are_near(levels, left, right) {
+        let whole = levels.branch(item, left, right)?;
+        return Ok(whole);
+    }
     if levels.height(left) <= levels.height(right) {
         sink_left(levels, left, item, right)
     } else {

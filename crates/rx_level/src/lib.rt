@@ -12,10 +12,10 @@ mod reading;
 mod trees;
 mod uses;
 
-pub use building::build;
+pub use building::{Bounds, build, build_between};
 pub use joining::{First, append, join, take_first};
 pub use levels::Levels;
 pub use links::{Link, Owned};
 pub use nodes::Node;
-pub use reading::{Found, find, same_levels};
+pub use reading::{Found, find, same_levels, span_of};
 pub use trees::{Item, Opened, Seen};

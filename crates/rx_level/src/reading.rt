@@ -4,6 +4,7 @@ ghost use Rattle.std.specs.Prelude.{◌≡◌, ◌↔◌, ℕ, List, [], ◌∷�
 ghost use Rattle.rx_tree.specs.Tree.{Level};
 ghost use Rattle.rx_level.specs.Entries.{Entry, entry_at};
 ghost use Rattle.rx_level.specs.Step.{Lent, level_of};
+ghost use Rattle.rx_level.specs.Between.{span_at};
 
 use crate::levels::Levels;
 use crate::links::Link;
@@ -15,6 +16,18 @@ use std::cmp::Ordering;
 pub struct Found<'a> {
     pub span: &'a Span,
     pub child: Link,
+}
+
+/// The span of a lent item.
+#[tactic(auto, using(crate::proofs::Between::fork_span))]
+pub fn span_of(levels: &Levels, key: usize) -> &Span
+    requires { Lent levels.now [] (Some key) }
+    ensures { result.now ≡ span_at levels.now key }
+{
+    let Some(seen) = levels.look(Some(key)) else {
+        unreachable!();
+    };
+    seen.span
 }
 
 /// The item of a lent level at a place, counted from 0. None where the level has no more items.

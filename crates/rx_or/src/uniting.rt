@@ -1,8 +1,9 @@
 //! Either of two lent levels: the items of the one that has fewer, each with what the other has within it,
 //! and between them what the other has there. What goes on below each pair of their children is made once.
 
-ghost use Rattle.std.specs.Prelude.{◌≡◌, ◌<◌, ◌≤◌, ◌+◌, ℕ, List, [], ◌∷◌, Option, Some, None, IfOk, IfErr, OnOk, OnErr};
+ghost use Rattle.std.specs.Prelude.{◌≡◌, ◌<◌, ◌≤◌, ◌+◌, ℕ, cond, List, [], ◌∷◌, Option, Some, None, IfOk, IfErr, OnOk, OnErr};
 ghost use Rattle.slab.specs.Slab.{slab_len};
+ghost use Rattle.rx_value.specs.Order.{is_at_most};
 ghost use Rattle.rx_tree.specs.Tree.{Level, level_size};
 ghost use Rattle.rx_tree.specs.Tree.Level.{item as one_item, end as no_items};
 ghost use Rattle.rx_tree.specs.Canonical.{ArePlaced};
@@ -56,6 +57,32 @@ fn alone(
         return Err(GraphFault::NoMemory);
     };
     Ok(whole)
+}
+
+// A level of one item between two ends, which is of this part, over a lent level; no items where the second end isn't
+// above the first.
+fn gap(
+    levels: &mut Levels,
+    alloc: Global,
+    at: u32,
+    lo: &End,
+    hi: &End,
+    child: Link,
+) -> Result<Owned, GraphFault>
+    requires sound { IsSound levels.old [] }
+    requires child { Lent levels.old [] child }
+    ensures ok { IfOk result (λ r. Step levels.old levels.new [] (r ∷ [])) }
+    ensures level { IfOk result (λ r. level_of levels.new r ≡ cond (is_at_most hi.now lo.now) no_items (one_item (record { lo = lo.now; hi = hi.now }) (level_of levels.old child) no_items)) }
+    ensures fault { IfErr result (λ fault. fault ≡ GraphFault.NoMemory) }
+    ensures err { OnErr result (Step levels.old levels.new [] []) }
+{
+    if is_at_most(hi, lo) {
+        return Ok(None);
+    }
+    match alone(levels, alloc, at, lo, hi, child) {
+        Ok(whole) => Ok(whole),
+        Err(fault) => Err(fault),
+    }
 }
 
 // What goes on below either of two lent children of items. The list says of the parts from that of the items
@@ -243,10 +270,7 @@ fn fill(
     ensures err { OnErr result (Adds levels.old levels.new memory.old memory.new []) }
 {
     let Some(seen) = levels.look(within) else {
-        if is_at_most(hi, lo) {
-            return Ok(None);
-        }
-        return match alone(levels, alloc, at, lo, hi, child) {
+        return match gap(levels, alloc, at, lo, hi, child) {
             Ok(whole) => Ok(whole),
             Err(fault) => Err(fault),
         };

@@ -1,5 +1,5 @@
 -- Levels of items without children, and the lists of their spans.
-use Rattle.std.proofs.Common.{◌≡◌, ◌<◌, ◌≤◌, ◌||◌, ℕ, Bool, List, [], ◌∷◌, ◌++◌, append_assoc, append-nil, Option, None, arith, refl, ap, ap₂, sym, ◌∙◌, subst}
+use Rattle.std.proofs.Common.{◌≡◌, ◌<◌, ◌≤◌, ◌||◌, ℕ, Bool, List, [], ◌∷◌, ◌++◌, append_assoc, append-nil, length, Option, None, arith, refl, ap, ap₂, sym, ◌∙◌, subst}
 use Rattle.std.proofs.Math.Bool.{and-true}
 use Rattle.slab.specs.Slab.{Slab}
 use Rattle.rx_value.specs.declared.order.End.{End}
@@ -115,6 +115,10 @@ bare_items (item s c rest) none = ap₂ (item s) none.0 (bare_items rest none.1)
 
 bare_hold : (l : Level) (p : End) (ps : List End) → HaveNoChild l → level_holds l (p ∷ ps) ≡ is_inside_any (spans_of l) p
 bare_hold l p ps none = ap (λ x. level_holds x (p ∷ ps)) (bare_items l none) ∙ items_hold (spans_of l) p ps
+
+pub items_size : (spans : List Span) → level_size (items_of spans) ≡ length spans
+items_size [] = refl
+items_size (s ∷ rest) = omega (arith, items_size rest)
 
 -- the items of what two levels' spans cover are those of either
 pub united_level : (parts : List Bool) (a b : Level) (u : List Span) → ArePoints a b → ArePlaced parts a → ArePlaced parts b → AreUnited (spans_of a) (spans_of b) u → items_of u ≡ either parts a b

@@ -9,14 +9,15 @@ ghost use Rattle.rx_level.specs.Store.{IsSound};
 ghost use Rattle.rx_level.specs.Step.{Step, Lent, level_of};
 ghost use Rattle.rx_value.specs.Order.{below};
 ghost use Rattle.rx_value.specs.declared.values.Value.TheVariants.{Null};
+ghost use Rattle.rx_level.specs.Between.{AreLent, spans_between};
+ghost use Rattle.rx_points.specs.Keys.{spans_at, AreLentKeys};
 ghost use Rattle.rx_points.specs.Spans.{ArePoints, AreRising, AreUnited, HaveNoChild, spans_of};
 
 use crate::merging::united;
-use crate::reading::add_spans;
+use crate::reading::add_keys;
 use rx_graph::GraphFault;
-use rx_level::{Levels, Link, Owned, build};
-use rx_limit::within;
-use rx_value::SpanList;
+use rx_level::{Bounds, Levels, Link, Owned, build_between};
+use rx_value::List;
 use std::alloc::{AllocError, Global};
 
 // The most items of a level that is made anew.
@@ -60,27 +61,34 @@ pub fn are_points(levels: &Levels, g: Link, h: Link) -> bool
     true
 }
 
-// The spans of a lent level's items in order.
-fn spans(levels: &Levels, alloc: Global, root: Link) -> Result<SpanList, AllocError>
+// The keys of a lent level's items in order.
+fn keys(levels: &Levels, alloc: Global, root: Link) -> Result<List<usize>, AllocError>
     requires { Lent levels.now [] root }
-    ensures { IfOk result (λ s. s ≡ spans_of (level_of levels.now root)) }
+    ensures spans { IfOk result (λ k. spans_at levels.now k ≡ spans_of (level_of levels.now root)) }
+    ensures lent { IfOk result (λ k. AreLentKeys levels.now k) }
 {
-    let mut spans = SpanList::with_capacity(alloc, levels.count(root) as usize)?;
-    add_spans(levels, alloc, root, &mut spans)?;
-    Ok(spans)
+    let mut keys = List::with_capacity(alloc, levels.count(root) as usize)?;
+    add_keys(levels, root, &mut keys)?;
+    Ok(keys)
 }
 
 // What the items of two lent levels cover, as spans that don't touch.
-fn united_spans(levels: &Levels, alloc: Global, g: Link, h: Link) -> Result<SpanList, AllocError>
+fn united_bounds(
+    levels: &Levels,
+    alloc: Global,
+    g: Link,
+    h: Link,
+) -> Result<List<Bounds>, AllocError>
     requires g { Lent levels.now [] g }
     requires h { Lent levels.now [] h }
     requires first { AreRising (below Null) (spans_of (level_of levels.now g)) }
     requires second { AreRising (below Null) (spans_of (level_of levels.now h)) }
-    ensures { IfOk result (λ u. AreUnited (spans_of (level_of levels.now g)) (spans_of (level_of levels.now h)) u) }
+    ensures united { IfOk result (λ u. AreUnited (spans_of (level_of levels.now g)) (spans_of (level_of levels.now h)) (spans_between levels.now u)) }
+    ensures lent { IfOk result (λ u. AreLent levels.now u) }
 {
-    let first = spans(levels, alloc, g)?;
-    let second = spans(levels, alloc, h)?;
-    let both = united(alloc, first.as_slice(), second.as_slice())?;
+    let first = keys(levels, alloc, g)?;
+    let second = keys(levels, alloc, h)?;
+    let both = united(levels, alloc, first.as_slice(), second.as_slice())?;
     Ok(both)
 }
 
@@ -113,14 +121,14 @@ pub fn unite_points(
         return Ok(None);
     };
     let part = top.part;
-    let Ok(spans) = united_spans(levels, alloc, g, h) else {
+    let Ok(bounds) = united_bounds(levels, alloc, g, h) else {
         return Err(GraphFault::NoMemory);
     };
-    let Ok(whole) = build(levels, part, spans) else {
-        return Err(GraphFault::NoMemory);
-    };
-    match within(levels, limit, whole) {
-        Ok(whole) => Ok(whole),
-        Err(fault) => Err(fault),
+    if bounds.len() as u64 > limit {
+        return Err(GraphFault::OverLimit);
     }
+    let Ok(whole) = build_between(levels, alloc, part, bounds.as_slice()) else {
+        return Err(GraphFault::NoMemory);
+    };
+    Ok(whole)
 }
