@@ -1,0 +1,4 @@
+pub mod Cans
+pub mod Constants
+pub mod Places
+pub mod Texts
