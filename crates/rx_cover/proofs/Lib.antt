@@ -1,0 +1,5 @@
+mod Pairs
+mod Stretches
+pub mod Rising
+pub mod Losing
+mod Examples
