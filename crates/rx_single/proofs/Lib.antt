@@ -1,0 +1,4 @@
+pub mod Saying
+pub mod Comparisons
+pub mod Points
+pub mod Prefixes
