@@ -5,3 +5,4 @@ pub mod One
 pub mod Some
 pub mod Splits
 pub mod Told
+pub mod Under

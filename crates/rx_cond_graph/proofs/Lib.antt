@@ -1,0 +1,9 @@
+pub mod Standing
+pub mod Sames
+pub mod Limits
+pub mod Going
+pub mod RowsSoFar
+pub mod Fronts
+pub mod Joining
+pub mod Signs
+pub mod Nexts
