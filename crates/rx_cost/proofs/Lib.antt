@@ -1,0 +1,4 @@
+mod Best
+pub mod Digits
+mod Examples
+pub mod Least
