@@ -1,0 +1,7 @@
+mod Examples
+pub mod Few
+pub mod Members
+pub mod Named
+pub mod Once
+pub mod Stages
+pub mod Suiting
