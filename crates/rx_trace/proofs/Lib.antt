@@ -1,0 +1,5 @@
+mod Examples
+pub mod Floats
+pub mod Joined
+pub mod Numbered
+pub mod Places
