@@ -28,7 +28,7 @@ ranged_so : (parts : List Part) (range : KeyRange) → IsPlanned parts range →
 ranged_so parts range h = record { within = h.within; span = h.span }
 
 -- the ranges of a scan that loses no row are ranges of its index
-ranges_so : (schema : Schema) (cond : Tree) (scan : Scan) → LosesNoRow schema cond scan → AreRangesOf (parts_in schema scan.index) scan.ranges
+pub ranges_so : (schema : Schema) (cond : Tree) (scan : Scan) → LosesNoRow schema cond scan → AreRangesOf (parts_in schema scan.index) scan.ranges
 ranges_so schema cond scan h =
     let parts = parts_in schema scan.index in
     record {

@@ -1,8 +1,9 @@
 pub mod Blocks
-mod Choice
-pub mod Floats
 pub mod Headline
-mod Least
-pub mod Plans
+pub mod Made
+pub mod Planned
+pub mod Running
 pub mod Scans
+pub mod Short
 pub mod Small
+pub mod Told

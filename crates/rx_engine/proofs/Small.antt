@@ -1,4 +1,4 @@
--- The integers of a row that fits are those of columns.
+-- The integers of a row whose values are of its columns' types are those of columns.
 use Rattle.std.proofs.Common.{inl, inr, ℕ, suc, Bool, true, false, List, [], ◌∷◌, All, sym, subst, arith}
 use Rattle.std.specs.Prelude.{ℤ}
 use Rattle.std.proofs.lemmas.Int.{ints}
@@ -9,7 +9,8 @@ use Rattle.rx_value.specs.declared.shapes.ColType.{ColType}
 use Rattle.rx_value.specs.declared.shapes.ColType.TheVariants.{Whole, VarChar}
 use Rattle.rx_value.specs.declared.shapes.Column.{Column}
 use Rattle.rx_value.specs.declared.shapes.Schema.{Schema}
-use Rattle.rx_value.specs.Shape.{IsSchema, IsColType, HasWidth, InRange, FitsType, FitsColumns, FitsRow}
+use Rattle.rx_value.specs.Shape.{IsSchema, IsColType, HasWidth, InRange, FitsType}
+use Rattle.rx_scan.specs.Handed.{AreOfTypes, IsOfTypes}
 use Rattle.rx_aggregate.specs.Aggregates.{IsSmall}
 
 by_width : (P : ℕ → Type 0) → P 8 → P 16 → P 24 → P 32 → P 64 → (bits : ℕ) → HasWidth bits → P bits
@@ -51,13 +52,13 @@ small_value (Whole bits signed) (Int n) k h = in_range bits k signed n h
 small_value (VarChar count) (Int n) k h = absurd h
 small_value kind (Text text) k h = tt
 
-small_values : (columns : List Column) (row : List Value) → All (λ c. IsColType c.kind) columns → FitsColumns columns row → All IsSmall row
+small_values : (columns : List Column) (row : List Value) → All (λ c. IsColType c.kind) columns → AreOfTypes columns row → All IsSmall row
 small_values [] [] types fits = All-nil IsSmall
 small_values [] (v ∷ vs) types fits = absurd fits
 small_values (c ∷ cs) [] types fits = absurd fits
 small_values (c ∷ cs) (v ∷ vs) types fits =
-    All-cons IsSmall v vs (small_value c.kind v (types 0 c (omega arith)) fits.0.kind) (small_values cs vs (λ i d lt. types (suc i) d (omega (arith, lt))) fits.1)
+    All-cons IsSmall v vs (small_value c.kind v (types 0 c (omega arith)) fits.0) (small_values cs vs (λ i d lt. types (suc i) d (omega (arith, lt))) fits.1)
 
--- so are those of each row of a table
-pub small_row : (schema : Schema) (row : List Value) → IsSchema schema → FitsRow schema row → All IsSmall row
+-- so are those of each row of such types
+pub small_row : (schema : Schema) (row : List Value) → IsSchema schema → IsOfTypes schema row → All IsSmall row
 small_row schema row limits fits = small_values schema.columns row limits.types fits

@@ -1,66 +1,55 @@
--- The ways to answer a query, their costs, the chosen one, and what it reads.
-use Rattle.std.specs.Prelude.{ℕ, suc, ◌+◌, ◌*◌, ◌/◌, ◌<◌, ◌≤◌, false, List, [], ◌∷◌, length, map, slice_index, slice_index_or, nat_le, if◌then◌else◌}
-use Rattle.std.specs.List.{list_all}
-use Rattle.rx_value.specs.declared.values.Value.{Value}
+-- What is known of the indexes of a table, the candidates of a question, the one that runs, and what is read.
+use Rattle.std.specs.Prelude.{ℕ, ◌+◌, List, map, if◌then◌else◌, Some, None}
+use Rattle.rx_value.specs.declared.shapes.Schema.{Schema}
+use Rattle.rx_index.specs.declared.indexed.Indexed.{Indexed}
 use Rattle.rx_store.specs.declared.tables.Counts.{Counts}
-use Rattle.rx_store.specs.Tables.{Meaning, rows_in}
+use Rattle.rx_store.specs.Stored.{no_counts}
+use Rattle.rx_store.specs.Tables.{Meaning}
 use Rattle.rx_query.specs.Steps.{Question}
 use Rattle.rx_query.specs.declared.settings.Settings.{Settings}
-use Rattle.rx_engine.specs.declared.candidates.Kind.{Kind}
-use Rattle.rx_engine.specs.declared.candidates.Kind.TheVariants.{Table}
-use Rattle.rx_engine.specs.declared.candidates.Candidate.{Candidate}
+use Rattle.rx_estimate.specs.Estimates.{parts_in}
+use Rattle.rx_build.specs.Given.{answer_for}
+use Rattle.rx_cost.specs.declared.candidates.Candidate.{Candidate}
+use Rattle.rx_cost.specs.declared.candidates.Reason.{Reason}
+use Rattle.rx_plan.specs.Naming.{is_usable, index_numbers}
+use Rattle.rx_plan.specs.Known.{Known, items_limit, reason_of, seeks_known}
+use Rattle.rx_plan.specs.Candidates.{candidates, chosen}
+use Rattle.rx_scan.specs.Visits.{visits}
 
--- 20 for each 50 rows and once more, and 2 for each row
-abbrev pub table_cost : ℕ → ℕ
-table_cost rows = 20 * (1 + rows / 50) + 2 * rows
+-- what is known of an index by its number: the answer of the condition on its parts, where the index is usable
+abbrev pub known_at : Settings → Question → Schema → ℕ → Known
+known_at settings q schema index = record {
+  index = index;
+  answer = if is_usable q index then Some (answer_for schema.columns (parts_in schema index) (items_limit settings.memory) q.cond) else None;
+}
 
--- the scan of a whole table
-abbrev pub table_scan : Meaning → Candidate
-table_scan table = record { kind = Table; scans = []; cost = table_cost table.count; rows = table.count; index_only = false }
+-- what is known of all indexes, in order
+abbrev pub known_of : Settings → Question → Schema → List Known
+known_of settings q schema = map (known_at settings q schema) (index_numbers schema)
 
--- all candidates of a question in order
-abbrev pub candidates_of : Settings → Question → Meaning → List Candidate
-candidates_of settings q table = table_scan table ∷ []
+-- the reason of each index, in order
+abbrev pub reasons_of : Settings → Question → Schema → List Reason
+reasons_of settings q schema = map reason_of (known_of settings q schema)
 
--- what a candidate costs
-abbrev pub cost_of : Candidate → ℕ
-cost_of candidate = candidate.cost
+-- how many seeks are made to estimate the ranges of all indexes
+abbrev pub dives_of : Settings → Question → Schema → ℕ
+dives_of settings q schema = seeks_known settings (known_of settings q schema)
 
--- the place of the first of the least costs
-pub record IsFirstLeast (costs : List ℕ) (place : ℕ) : Type 0 where
-  pub within : place < length costs
-  pub least : (k : ℕ) → k < length costs → slice_index costs place ≤ slice_index costs k
-  pub first : (k : ℕ) → k < place → slice_index costs place < slice_index costs k
+-- all candidates of a question in order, over a told table
+abbrev pub candidates_of : Settings → Question → Meaning → Indexed → List Candidate
+candidates_of settings q table t = candidates settings q table t (known_of settings q table.schema)
 
--- the first cost that is above none behind it, which is the first of the least
-abbrev pub least_place : List ℕ → ℕ
-least_place [] = 0
-least_place (cost ∷ costs) = if list_all (λ c. nat_le cost c) costs then 0 else suc (least_place costs)
+-- the candidate that runs
+abbrev pub chosen_of : Settings → Question → Meaning → Indexed → Candidate
+chosen_of settings q table t = chosen settings q table t (known_of settings q table.schema)
 
--- the place of the chosen candidate
-abbrev pub chosen_place : List Candidate → ℕ
-chosen_place all = least_place (map cost_of all)
+-- reads with so many seeks before them
+abbrev pub behind_seeks : ℕ → Counts → Counts
+behind_seeks seeks reads = record reads { seeks = seeks + reads.seeks }
 
--- the chosen candidate of a question
-abbrev pub chosen : Settings → Question → Meaning → Candidate
-chosen settings q table = slice_index_or (candidates_of settings q table) (chosen_place (candidates_of settings q table)) (table_scan table)
-
--- what a kind of candidate reads: a table scan reads each row once
-abbrev pub visits_of : Kind → Candidate → Meaning → Counts
-visits_of Table candidate table = record { seeks = 0; entries = 0; rows = table.count }
-
--- what a candidate reads
-abbrev pub visits : Candidate → Meaning → Counts
-visits candidate table = visits_of candidate.kind candidate table
-
--- the rows in the order of a kind of candidate: a table scan reads them in the order of their ids
-abbrev pub visited_of : Kind → Candidate → Meaning → List (List Value)
-visited_of Table candidate table = rows_in table
-
--- the rows in the order in which a candidate reads them
-abbrev pub visited : Candidate → Meaning → List (List Value)
-visited candidate table = visited_of candidate.kind candidate table
-
--- what the chosen candidate reads
+-- what a statement reads of a table: the seeks of the estimates, and what the candidate that runs reads; nothing is said where the rows aren't told
 abbrev pub reads_of : Settings → Question → Meaning → Counts
-reads_of settings q table = visits (chosen settings q table) table
+reads_of settings q table = elim table.told [
+  | Some t ↦ behind_seeks (dives_of settings q table.schema) (visits (chosen_of settings q table t) table)
+  | None ↦ no_counts
+]

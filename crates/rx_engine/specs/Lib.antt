@@ -1,9 +1,10 @@
+pub mod Answers
 pub mod Blocks
 pub mod Candidates
 pub mod Headline
 pub mod Plan
 pub mod Printed
 pub mod Running
+pub mod Seeks
 pub mod Seen
 pub mod Select
-pub mod Trace

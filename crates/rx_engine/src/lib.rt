@@ -1,14 +1,16 @@
-//! One SELECT: its candidates, the choice among them, the rows that it reads, and its block.
+//! One SELECT: its plan, the candidate that runs, the rows that this hands out, and its block.
 #![tactic(auto)]
 
-mod candidates;
+mod answering;
 mod engine;
 mod laws;
 mod plain;
+mod plans;
 mod printing;
 mod scanning;
-mod traces;
+mod seeks;
 
-pub use candidates::{Candidate, CandidateList, Kind, Role, Scan, ScanList};
-pub use engine::{SelectFault, select};
-pub use laws::{answers_are_bags, first_of_least_cost_is_chosen};
+pub use engine::{Report, SelectFault, select};
+pub use laws::{
+    answers_are_bags, first_of_least_cost_is_chosen, indexes_are_known, ranges_lose_no_row,
+};

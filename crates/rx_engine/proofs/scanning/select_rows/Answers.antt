@@ -1,15 +1,30 @@
-use Rattle.rx_store.proofs.Chains.{Keeps-chain, with_rows-more}
+use Rattle.std.proofs.Common.{◌≡◌, sym, arith}
+use Rattle.rx_store.proofs.Chains.{Keeps-chain}
 use Rattle.rx_query.specs.Steps.{question_of}
-use Rattle.rx_engine.proofs.Scans.{selected-more, kept-more}
+use Rattle.rx_engine.proofs.Scans.{after-more, selected-more, selected-all, none_left, kept-more}
 use Rattle.rx_engine.proofs.scanning.select_rows.Goals as goal
 
-pub loop-id-preserved : goal.loop-id-preserved
-loop-id-preserved g c =
-    let here = c.loop-id.invariant in
+pub loop-count-preserved : goal.loop-count-preserved
+loop-count-preserved g c =
+    let here = c.loop-count.invariant in
+    let table = g.T.Table.means c.args.table.now in
     let q = question_of c.args.query.now in
+    let next = c.in-Ok-Some in
+    let row = rw next.field-0-is at (rw here.keeps.means_stays at next.ensures.row) in
+    let types = rw next.field-0-is at (rw here.keeps.means_stays at next.ensures.types) in
+    let kept = c.in-Ok.ensures in
     record {
-      selected = selected-more _ q c.loop-id.id c.in-Ok.row c.loop-id.kept c.keep_if_selected.new.kept here.selected (rw here.keeps.means_stays at c.in-Ok.ensures.told) c.in-Ok-keep_if_selected.ensures;
-      few = kept-more (g.T.Table.means c.args.table.now).schema q c.loop-id.id c.in-Ok.row c.loop-id.kept c.keep_if_selected.new.kept c.rows-id-end.ensures.sound.limits (rw here.keeps.means_stays at c.in-Ok.ensures.fits) here.few c.in-Ok-keep_if_selected.ensures;
-      counts = with_rows-more c.loop-id.id _ _ _ here.counts c.in-Ok.ensures.counts;
-      keeps = Keeps-chain g.met.T.Table.kept_chained g.met.T.Table.spent_chained _ _ _ _ here.keeps c.in-Ok.ensures.keeps;
+      over = rw here.keeps.means_stays at next.ensures.over;
+      after = after-more table c.args.run c.loop-count.left c.next.new.self next.row c.loop-count.count _ _ _ here.after row (rw next.field-0-is at next.ensures.counts);
+      selected = selected-more table q c.args.run c.loop-count.left c.next.new.self next.row c.loop-count.rows c.keep_if_selected.new.kept here.selected row kept;
+      few = kept-more table.schema q c.loop-count.count next.row c.loop-count.rows c.keep_if_selected.new.kept c.rows-most.ensures.sound.limits types here.few kept;
+      keeps = Keeps-chain g.met.T.Table.kept_chained g.met.T.Table.spent_chained _ _ _ _ here.keeps next.ensures.keeps;
     }
+
+pub returns-clause-told : goal.returns-clause-told
+returns-clause-told g c =
+    let here = c.loop-count.invariant in
+    let table = g.T.Table.means c.args.table.now in
+    let past : c.loop-count.count ≡ c.rows-most.result = omega (arith, c.loop-count-test.false, c.loop-count.auto.count-end) in
+    selected-all table (question_of c.args.query.now) c.args.run c.loop-count.left c.rows-most.result _ _ c.loop-count.rows here.selected (rw past at here.after)
+    (none_left table c.args.run c.loop-count.left c.rows-most.result _ _ c.requires.short (sym c.rows-most.ensures.value) (rw past at here.after))

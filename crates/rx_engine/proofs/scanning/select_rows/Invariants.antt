@@ -1,13 +1,17 @@
 use Rattle.std.proofs.Common.{◌≡◌, None}
-use Rattle.rx_store.specs.Tables.{Keeps, with_rows}
+use Rattle.rx_store.specs.Tables.{Keeps}
 use Rattle.rx_query.specs.Steps.{question_of}
-use Rattle.rx_engine.proofs.Scans.{SelectsSoFar, KeptSoFar}
+use Rattle.rx_scan.specs.Runs.{IsRunOver}
+use Rattle.rx_engine.proofs.Scans.{IsAfter, SelectsSoFar, KeptSoFar}
 use Rattle.rx_engine.proofs.scanning.select_rows.Given as goal
 
-abbrev pub invariant-loop-id : goal.invariant-loop-id
-invariant-loop-id g l = record {
-  selected : SelectsSoFar (question_of l.query) (g.T.Table.means l.initial.table).told l.id l.kept;
-  few : KeptSoFar l.id l.kept;
-  counts : (g.T.Table.tally l.table).counts ≡ with_rows l.id (g.T.Table.tally l.initial.table).counts;
-  keeps : Keeps g.T.Table.means g.T.Table.tally g.T.Table.kept g.T.Table.spent None l.initial.table l.table;
-}
+abbrev pub invariant-loop-count : goal.invariant-loop-count
+invariant-loop-count g l =
+    let table = g.T.Table.means l.initial.table in
+    record {
+      over : IsRunOver table l.left;
+      after : IsAfter table l.fn.run l.left l.count (g.T.Table.tally l.initial.table).counts (g.T.Table.tally l.table).counts;
+      selected : SelectsSoFar (question_of l.query) table l.fn.run l.left l.rows;
+      few : KeptSoFar l.count l.rows;
+      keeps : Keeps g.T.Table.means g.T.Table.tally g.T.Table.kept g.T.Table.spent None l.initial.table l.table;
+    }
