@@ -133,12 +133,16 @@ stops-after table all here rest a b c WriteFault p same q =
       no_room = told_both table.told (λ s n. room_left all here rest a b s n) p q.no_room;
     }
 
--- the counts after one step more
-pub counts-more : (table means : Meaning) (settings : Settings) (left rest : List Step) (step : Step) (b c all : Counts) → left ≡ step ∷ rest → counts_after settings left table b ≡ all → means ≡ table → c ≡ counts_after_request settings step.request means b → counts_after (settings_after settings step) rest table c ≡ all
+-- the counts after one step more, where the rows are told
+pub counts-more : (table means : Meaning) (settings : Settings) (left rest : List Step) (step : Step) (b c all : Counts) → left ≡ step ∷ rest → WhereTold table (counts_after settings left table b ≡ all) → means ≡ table
+    → WhereTold means (c ≡ counts_after_request settings step.request means b) → WhereTold table (counts_after (settings_after settings step) rest table c ≡ all)
 counts-more table means settings left rest step b c all is so_far same counted =
-    ap (counts_after (settings_after settings step) rest table) (counted ∙ ap (λ m. counts_after_request settings step.request m b) same)
-    ∙ ap (λ steps. counts_after settings steps table b) (sym is)
-    ∙ so_far
+    let here : WhereTold table (c ≡ counts_after_request settings step.request table b) = subst (λ (m : Meaning). WhereTold m (c ≡ counts_after_request settings step.request m b)) same counted in
+    told_both table.told (λ e f. ap (counts_after (settings_after settings step) rest table) f ∙ ap (λ steps. counts_after settings steps table b) (sym is) ∙ e) so_far here
+
+-- counts that stay
+pub counts_same : (table : Meaning) (c : Counts) → WhereTold table (c ≡ c)
+counts_same table c = told table.told refl
 
 -- a step that puts nothing
 pub puts_nothing : (table : Meaning) (s : SinkSeen) → Puts table [] s s

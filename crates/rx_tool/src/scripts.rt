@@ -1,5 +1,5 @@
 ghost use Rattle.std.specs.Prelude.{◌≡◌, None, IfOk, IfErr, OnOk, map};
-ghost use Rattle.rx_store.specs.Tables.{Keeps};
+ghost use Rattle.rx_store.specs.Tables.{Keeps, WhereTold};
 ghost use Rattle.rx_query.specs.Steps.{step_of};
 ghost use Rattle.rx_query.specs.Settings.{default_settings, settings_after};
 ghost use Rattle.rx_engine.specs.Seen.{sink_seen};
@@ -24,8 +24,8 @@ pub(crate) fn run_script<T: Table, O: Sink>(
         (sink_seen O.text O.faults O.room out.old) (sink_seen O.text O.faults O.room out.new)) }
     ensures stopped { IfErr result (Stops (T.means table.old) (blocks_of (map step_of script.now) (T.means table.old))
         (sink_seen O.text O.faults O.room out.old) (sink_seen O.text O.faults O.room out.new)) }
-    ensures counts { OnOk result
-        ((T.tally table.new).counts ≡ counts_after default_settings (map step_of script.now) (T.means table.old) (T.tally table.old).counts) }
+    ensures counts { OnOk result (WhereTold (T.means table.old)
+        ((T.tally table.new).counts ≡ counts_after default_settings (map step_of script.now) (T.means table.old) (T.tally table.old).counts)) }
     ensures keeps { OnOk result (Keeps T.means T.tally T.kept T.spent None table.old table.new) }
     ensures cause { IfErr result (λ f. Keeps T.means T.tally T.kept T.spent (table_fault f) table.old table.new) }
 {
@@ -40,7 +40,7 @@ pub(crate) fn run_script<T: Table, O: Sink>(
 }
 
 // Runs one statement under the settings, and answers the settings after it.
-#[tactic(auto, using(crate::proofs::Blocks::puts_nothing))]
+#[tactic(auto, using(crate::proofs::Blocks::puts_nothing, crate::proofs::Blocks::counts_same))]
 fn run_statement<T: Table, O: Sink>(
     alloc: Global,
     settings: Settings,
@@ -53,8 +53,8 @@ fn run_statement<T: Table, O: Sink>(
         (sink_seen O.text O.faults O.room out.old) (sink_seen O.text O.faults O.room out.new)) }
     ensures stopped { IfErr result (Stops (T.means table.old) (blocks_of_step settings (step_of numbered.now) (T.means table.old))
         (sink_seen O.text O.faults O.room out.old) (sink_seen O.text O.faults O.room out.new)) }
-    ensures counts { OnOk result
-        ((T.tally table.new).counts ≡ counts_after_request settings (step_of numbered.now).request (T.means table.old) (T.tally table.old).counts) }
+    ensures counts { OnOk result (WhereTold (T.means table.old)
+        ((T.tally table.new).counts ≡ counts_after_request settings (step_of numbered.now).request (T.means table.old) (T.tally table.old).counts)) }
     ensures keeps { OnOk result (Keeps T.means T.tally T.kept T.spent None table.old table.new) }
     ensures cause { IfErr result (λ f. Keeps T.means T.tally T.kept T.spent (table_fault f) table.old table.new) }
 {
@@ -67,7 +67,7 @@ fn run_statement<T: Table, O: Sink>(
             table,
             out,
         ) {
-            Ok(()) => Ok(settings),
+            Ok(_) => Ok(settings),
             Err(fault) => Err(fault),
         },
         Statement::Change(change) => Ok(apply(&settings, change)),

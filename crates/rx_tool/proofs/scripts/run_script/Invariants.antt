@@ -14,6 +14,6 @@ invariant-loop-numbered g l = record {
       (blocks_from l.settings (map step_of (drop l.numbered-index l.numbered-items)) (g.T.Table.means l.initial.table))
       (sink_seen g.O.Sink.text g.O.Sink.faults g.O.Sink.room l.initial.out) (sink_seen g.O.Sink.text g.O.Sink.faults g.O.Sink.room l.out));
   no_fault : g.O.Sink.faults l.out ≡ g.O.Sink.faults l.initial.out;
-  counts : counts_after l.settings (map step_of (drop l.numbered-index l.numbered-items)) (g.T.Table.means l.initial.table) (g.T.Table.tally l.table).counts ≡ counts_after default_settings (map step_of l.script) (g.T.Table.means l.initial.table) (g.T.Table.tally l.initial.table).counts;
+  counts : WhereTold (g.T.Table.means l.initial.table) (counts_after l.settings (map step_of (drop l.numbered-index l.numbered-items)) (g.T.Table.means l.initial.table) (g.T.Table.tally l.table).counts ≡ counts_after default_settings (map step_of l.script) (g.T.Table.means l.initial.table) (g.T.Table.tally l.initial.table).counts);
   keeps : Keeps g.T.Table.means g.T.Table.tally g.T.Table.kept g.T.Table.spent None l.initial.table l.table;
 }
