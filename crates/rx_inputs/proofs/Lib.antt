@@ -1,1 +1,2 @@
+mod ById
 mod Following

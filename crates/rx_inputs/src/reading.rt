@@ -2,11 +2,12 @@ ghost use Rattle.std.specs.Prelude.{◌≡◌, ◌≤◌, IsTrue, IfOk, IfErr, A
 ghost use Rattle.rx_value.specs.Limits.{most_columns, most_rows};
 ghost use Rattle.rx_value.specs.Shape.{IsSchema, FitsRow};
 ghost use Rattle.rx_outside.specs.Files.{KeepsFiles, TakesUpTo, most_taken};
-ghost use Rattle.rx_index.specs.Entries.{IsEntered};
+ghost use Rattle.rx_index.specs.Entries.{IsEntered, IsInIdOrder};
 ghost use Rattle.rx_stats.specs.Statistics.{IsStatistics};
 ghost use Rattle.rx_load.specs.Numbers.{statistics_of};
 ghost use Rattle.rx_query.specs.Steps.{step_of};
 ghost use Rattle.rx_query.specs.Questions.{IsStep};
+ghost use Rattle.rx_spelled.specs.Utf8.{StepAsksUtf8};
 ghost use Rattle.rx_store.specs.Stored.{IsStorable};
 ghost use Rattle.rx_words.specs.Words.{files_of};
 ghost use Rattle.rx_inputs.specs.Refusals.{limit_of};
@@ -76,7 +77,9 @@ pub fn read_inputs<F: Files>(
 ) -> Result<Inputs, InputFault>
     ensures accepted { IfOk result (λ i. AcceptsAs (held_by (F.told files.old) (files_of names.now)) (held i)) }
     ensures storable { IfOk result (λ i. IsStorable i.table i.statistics) }
+    ensures by_id { IfOk result (λ i. IsInIdOrder i.table.schema.indexes i.table.rows i.table.rows) }
     ensures asks { IfOk result (λ i. All (λ numbered. IsStep i.table.schema (step_of numbered)) i.script) }
+    ensures spelled { IfOk result (λ i. All (λ numbered. StepAsksUtf8 (step_of numbered)) i.script) }
     ensures stopped { IfErr result (StopsReading (held_by (F.told files.old) (files_of names.now)) (F.faults files.old) (F.faults files.new)) }
     ensures later { F.faults files.old ≤ F.faults files.new }
     ensures sure { AreSure (F.sure files.old) (files_read (F.told files.old) (files_of names.now)) → F.faults files.new ≡ F.faults files.old }
@@ -97,7 +100,9 @@ fn read_contents<F: Files>(
     requires { IsSchema schema }
     ensures accepted { IfOk result (λ i. AcceptsAs (contents_by (F.told files.old) (files_of names.now) schema) (held i)) }
     ensures storable { IfOk result (λ i. IsStorable i.table i.statistics) }
+    ensures by_id { IfOk result (λ i. IsInIdOrder i.table.schema.indexes i.table.rows i.table.rows) }
     ensures asks { IfOk result (λ i. All (λ numbered. IsStep i.table.schema (step_of numbered)) i.script) }
+    ensures spelled { IfOk result (λ i. All (λ numbered. StepAsksUtf8 (step_of numbered)) i.script) }
     ensures stopped { IfErr result (StopsReading (contents_by (F.told files.old) (files_of names.now) schema) (F.faults files.old) (F.faults files.new)) }
     ensures later { F.faults files.old ≤ F.faults files.new }
     ensures sure { AreSure (F.sure files.old) (files_behind (F.told files.old) (files_of names.now) schema) → F.faults files.new ≡ F.faults files.old }
@@ -118,9 +123,12 @@ fn read_rest<F: Files>(
     requires limits { IsSchema table.schema }
     requires entered { IsEntered table }
     requires fit { All (FitsRow table.schema) table.rows }
+    requires by_id { IsInIdOrder table.schema.indexes table.rows table.rows }
     ensures accepted { IfOk result (λ i. AcceptsAs (rest_by (F.told files.old) (files_of names.now) table) (held i)) }
     ensures storable { IfOk result (λ i. IsStorable i.table i.statistics) }
+    ensures by_id { IfOk result (λ i. IsInIdOrder i.table.schema.indexes i.table.rows i.table.rows) }
     ensures asks { IfOk result (λ i. All (λ numbered. IsStep i.table.schema (step_of numbered)) i.script) }
+    ensures spelled { IfOk result (λ i. All (λ numbered. StepAsksUtf8 (step_of numbered)) i.script) }
     ensures stopped { IfErr result (StopsReading (rest_by (F.told files.old) (files_of names.now) table) (F.faults files.old) (F.faults files.new)) }
     ensures later { F.faults files.old ≤ F.faults files.new }
     ensures sure { AreSure (F.sure files.old) (files_after (F.told files.old) (files_of names.now) table) → F.faults files.new ≡ F.faults files.old }
@@ -192,6 +200,7 @@ fn table_of_rows(alloc: Global, schema: Schema, rows: RowList) -> Result<Indexed
     ensures limits { IfOk result (λ t. IsSchema t.schema) }
     ensures entered { IfOk result IsEntered }
     ensures fit { IfOk result (λ t. All (FitsRow t.schema) t.rows) }
+    ensures by_id { IfOk result (λ t. IsInIdOrder t.schema.indexes t.rows t.rows) }
     ensures stopped { IfErr result (StopsReading (table_of_rows schema rows) 0 0) }
 {
     let names = names_of(alloc, schema.indexes.as_slice())?;
@@ -217,6 +226,7 @@ fn read_table<F: Files>(
     ensures limits { IfOk result (λ t. IsSchema t.schema) }
     ensures entered { IfOk result IsEntered }
     ensures fit { IfOk result (λ t. All (FitsRow t.schema) t.rows) }
+    ensures by_id { IfOk result (λ t. IsInIdOrder t.schema.indexes t.rows t.rows) }
     ensures stopped { IfErr result (StopsReading (table_of_file schema (F.told files.old name.now)) (F.faults files.old) (F.faults files.new)) }
     ensures later { F.faults files.old ≤ F.faults files.new }
     ensures sure { IsTrue (F.sure files.old name.now) → F.faults files.new ≡ F.faults files.old }
@@ -289,6 +299,7 @@ fn read_script<F: Files>(
     requires { length schema.now.columns ≤ most_columns }
     ensures accepted { IfOk result (λ s. AcceptsAs (steps_of_file schema.now (F.told files.old name.now)) (map step_of s)) }
     ensures asks { IfOk result (All (λ numbered. IsStep schema.now (step_of numbered))) }
+    ensures spelled { IfOk result (All (λ numbered. StepAsksUtf8 (step_of numbered))) }
     ensures stopped { IfErr result (StopsReading (steps_of_file schema.now (F.told files.old name.now)) (F.faults files.old) (F.faults files.new)) }
     ensures later { F.faults files.old ≤ F.faults files.new }
     ensures sure { IsTrue (F.sure files.old name.now) → F.faults files.new ≡ F.faults files.old }

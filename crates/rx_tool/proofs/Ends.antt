@@ -27,6 +27,18 @@ stopped_ends owed old new stop ended s (inl t) = subst (λ (e : Status). Ends ow
 stopped_ends owed old new stop ended s (inr t) =
     subst (λ (e : Status). Ends owed old new e) (sym t.status) (inr (inr (record { stop = stop; stopped = s; rose = t.rose; front = t.front; is_front = t.is_front; line = t.line })))
 
+-- it is not done
+pub stopped_not_done : (old new : SinkSeen) (stop : Stop) (ended : Status) → Tells stop old new ended → ended ≡ status.Done → ⊥
+stopped_not_done old new stop ended (inl t) done = of_stop stop (sym t.status ∙ done)
+  where
+    of_stop : (s : Stop) → status_of s ≡ status.Done → ⊥
+    of_stop ReadFault e = cc e
+    of_stop WriteFault e = cc e
+    of_stop Words e = cc e
+    of_stop (Refused line) e = cc e
+    of_stop NoMemory e = cc e
+stopped_not_done old new stop ended (inr t) done = cc (t.status, done)
+
 -- it hands no table back
 pub stopped_hands : (owes : Owes) (old new : SinkSeen) (stop : Stop) (ended : Status) → Tells stop old new ended → Hands owes ended None None
 stopped_hands owes old new stop ended (inl t) = subst (λ (e : Status). Hands owes e None None) (sym t.status) (of_stop stop)

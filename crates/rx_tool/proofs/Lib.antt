@@ -1,4 +1,5 @@
 pub mod Blocks
 mod Ends
+mod Headline
 pub mod Owed
 mod Sums

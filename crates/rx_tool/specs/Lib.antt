@@ -1,5 +1,6 @@
 pub mod Blocks
 pub mod Ending
+pub mod Headline
 pub mod Owes
 pub mod Seen
 pub mod Stops

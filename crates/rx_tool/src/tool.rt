@@ -2,7 +2,8 @@ ghost use Rattle.std.specs.Prelude.{◌≡◌, IfOk, IfErr, OnOk, map, string_by
 ghost use Rattle.rx_outside.specs.Files.{KeepsFiles};
 ghost use Rattle.rx_store.specs.Stored.{IsStorable};
 ghost use Rattle.rx_inputs.specs.Faults.{held};
-ghost use Rattle.rx_words.specs.Words.{files_of};
+ghost use Rattle.rx_inputs.specs.Files.{held_by};
+ghost use Rattle.rx_words.specs.Words.{files_of, task_of};
 ghost use Rattle.rx_tool.specs.Blocks.{blocks_of};
 ghost use Rattle.rx_engine.specs.Running.{Puts};
 ghost use Rattle.rx_engine.specs.Seen.{sink_seen};
@@ -10,6 +11,7 @@ ghost use Rattle.rx_tool.specs.Seen.{files_seen, outside};
 ghost use Rattle.rx_tool.specs.Owes.{owed, select_owes, table_of, table_after};
 ghost use Rattle.rx_tool.specs.Ending.{IsRun};
 ghost use Rattle.rx_tool.specs.Work.{IsWork, StopsScript};
+ghost use Rattle.rx_tool.specs.Headline.{BagsOf, PrintsBags};
 
 use crate::scripts::run_script;
 use crate::stops::{Status, Stop, tell};
@@ -47,6 +49,9 @@ pub fn run<F: Files, O: Sink, E: Sink>(
         (outside (files_seen F.told F.sure F.taken F.faults result.files) (sink_seen O.text O.faults O.room out.new) (sink_seen E.text E.faults E.room err.new))
         result.status result.first result.second }
 
+    // Where it is done, each SELECT of an accepted script printed, as a bag, the rows of filtering and grouping the whole table, in the order asked for.
+    ensures bags { result.status ≡ Status.Done → PrintsBags (task_of (map string_bytes words.now)) (F.told files) }
+
     // Where it is done, `err` is as it was; and the files tell what they told.
     ensures quiet { result.status ≡ Status.Done → err.new ≡ err.old }
     ensures keeps { KeepsFiles F.told F.sure F.room files result.files }
@@ -81,6 +86,7 @@ fn work<F: Files, O: Sink>(
     ensures work { IsWork (owed (map string_bytes words.now) (F.told files.old))
         (files_seen F.told F.sure F.taken F.faults files.old) (files_seen F.told F.sure F.taken F.faults files.new)
         (sink_seen O.text O.faults O.room out.old) (sink_seen O.text O.faults O.room out.new) result }
+    ensures bags { OnOk result (PrintsBags (task_of (map string_bytes words.now)) (F.told files.old)) }
     ensures keeps { KeepsFiles F.told F.sure F.room files.old files.new }
 {
     match command_of(alloc, words) {
@@ -100,6 +106,7 @@ fn run_select<F: Files, O: Sink>(
     ensures work { IsWork (select_owes (F.told files.old) (files_of names.now))
         (files_seen F.told F.sure F.taken F.faults files.old) (files_seen F.told F.sure F.taken F.faults files.new)
         (sink_seen O.text O.faults O.room out.old) (sink_seen O.text O.faults O.room out.new) result }
+    ensures bags { OnOk result (BagsOf (held_by (F.told files.old) (files_of names.now))) }
     ensures keeps { KeepsFiles F.told F.sure F.room files.old files.new }
 {
     let read = match read_inputs(alloc, files, names) {

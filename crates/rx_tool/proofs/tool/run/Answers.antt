@@ -3,7 +3,7 @@ use Rattle.std.specs.Prelude.{string_bytes}
 use Rattle.rx_engine.specs.Seen.{sink_seen}
 use Rattle.rx_tool.specs.Seen.{files_seen, outside}
 use Rattle.rx_tool.specs.Owes.{owed}
-use Rattle.rx_tool.proofs.Ends.{stopped_ends, stopped_hands, stopped_complete, line_has_room}
+use Rattle.rx_tool.proofs.Ends.{stopped_ends, stopped_not_done, stopped_hands, stopped_complete, line_has_room}
 use Rattle.rx_tool.proofs.tool.run.Goals as goal
 
 pub returns-in-Err-clause-run : goal.returns-in-Err-clause-run
@@ -27,3 +27,9 @@ returns-in-Err-clause-run g c =
       out_later = work.out_later;
       err_later = c.tell-status.ensures.later;
     }
+
+pub returns-in-Err-clause-bags : goal.returns-in-Err-clause-bags
+returns-in-Err-clause-bags g c done =
+    let old = sink_seen g.E.Sink.text g.E.Sink.faults g.E.Sink.room c.args.err.now in
+    let new = sink_seen g.E.Sink.text g.E.Sink.faults g.E.Sink.room c.tell-status.new.err in
+    absurd (stopped_not_done old new c.in-Err.stop c.tell-status.result c.tell-status.ensures.told done)

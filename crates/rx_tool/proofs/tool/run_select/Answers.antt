@@ -4,6 +4,7 @@ use Rattle.rx_words.specs.Words.{files_of}
 use Rattle.rx_inputs.specs.Reads.{files_read}
 use Rattle.rx_engine.specs.Seen.{sink_seen}
 use Rattle.rx_tool.proofs.Owed.{script_ends, script_later, calm_accepted}
+use Rattle.rx_tool.proofs.Headline.{bags_read}
 use Rattle.rx_tool.proofs.tool.run_select.Goals as goal
 
 pub returns-clause-work : goal.returns-clause-work
@@ -21,3 +22,8 @@ returns-clause-work g c =
       files_later = c.read_inputs.ensures.later;
       out_later = script_later read old new c.run_inputs.result c.run_inputs.ensures.puts c.run_inputs.ensures.stopped;
     }
+
+pub returns-clause-bags : goal.returns-clause-bags
+returns-clause-bags g c =
+    let told = g.F.Files.told c.args.files.now in
+    bags_read c.run_inputs.result (held_by told (files_of c.args.names.now)) c.in-Ok.read c.in-Ok.ensures.accepted c.in-Ok.ensures.storable c.in-Ok.ensures.by_id c.in-Ok.ensures.asks c.in-Ok.ensures.spelled
