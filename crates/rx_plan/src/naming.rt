@@ -74,7 +74,7 @@ fn names(query: &Select, column: u32) -> bool
 }
 
 /// The columns of the table that a query names, in order. The error is want of memory.
-pub(crate) fn columns_named(
+pub fn columns_named(
     alloc: Global,
     query: &Select,
     schema: &Schema,
@@ -118,7 +118,7 @@ fn has_columns(columns: &[u32], parts: &[Part]) -> bool
 }
 
 /// The parts of an index by its number.
-pub(crate) fn parts_in(schema: &Schema, index: u32) -> &[Part]
+pub fn parts_in(schema: &Schema, index: u32) -> &[Part]
     requires { index < length schema.now.indexes }
     ensures { result.now ≡ parts_in schema.now index }
 {
@@ -126,7 +126,7 @@ pub(crate) fn parts_in(schema: &Schema, index: u32) -> &[Part]
 }
 
 /// Whether an index by its number is the primary key.
-pub(crate) fn is_primary(schema: &Schema, index: u32) -> bool
+pub fn is_primary(schema: &Schema, index: u32) -> bool
     requires { index < length schema.now.indexes }
     ensures { result ≡ is_primary schema.now index }
 {
@@ -134,7 +134,7 @@ pub(crate) fn is_primary(schema: &Schema, index: u32) -> bool
 }
 
 /// Whether the entries of an index alone have these columns: it isn't the primary key, and has them all.
-pub(crate) fn is_index_only(schema: &Schema, columns: &[u32], index: u32) -> bool
+pub fn is_index_only(schema: &Schema, columns: &[u32], index: u32) -> bool
     requires { index < length schema.now.indexes }
     ensures { result ≡ (not (is_primary schema.now index) && has_columns columns.now (parts_in schema.now index)) }
 {
@@ -142,7 +142,7 @@ pub(crate) fn is_index_only(schema: &Schema, columns: &[u32], index: u32) -> boo
 }
 
 /// Whether the hints of a query leave an index (MySQL manual, "Index Hints").
-pub(crate) fn is_usable(query: &Select, index: u32) -> bool
+pub fn is_usable(query: &Select, index: u32) -> bool
     ensures { result ≡ is_usable (question_of query.now) index }
 {
     match query.usable.as_slice().get(index as usize) {

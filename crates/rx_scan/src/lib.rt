@@ -10,4 +10,5 @@ pub use laws::{
     covers_are_ranges, runs_hand_out_what_is_visited, scans_hand_out_each_row_once,
     scans_lose_no_row,
 };
-pub use runs::{ScanRun, open_scan};
+pub use places::Places;
+pub use runs::{ScanRun, find_places, open_scan};

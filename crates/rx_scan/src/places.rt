@@ -15,7 +15,7 @@ pub(crate) struct Extent {
 
 /// Places that are left, in order: those from one on, before another, and then those of extents from one of them on.
 #[derive(Drop)]
-pub(crate) struct Places {
+pub struct Places {
     at: u64,
     end: u64,
     extents: List<Extent>,
@@ -73,7 +73,7 @@ impl Places {
     }
 
     /// Takes out the first place.
-    pub(crate) fn next(&mut self) -> Option<u64>
+    pub fn next(&mut self) -> Option<u64>
         ensures some { IfSome result (λ place. self.old ≡ place ∷ self.new) }
         ensures none { IfNone result (self.old ≡ []) }
         ensures empty { IfNone result (self.new ≡ []) }

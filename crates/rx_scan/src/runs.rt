@@ -74,8 +74,9 @@ fn find_extent<T: Table>(table: &mut T, index: u32, range: &KeyRange) -> Result<
     }
 }
 
-// The places of the entries of an index in ranges, for each range in order, by two seeks for each.
-fn find_places<T: Table>(
+/// The places of the entries of an index in ranges, for each range in order, by two seeks for each. No entry is read. A seek
+/// may fail to be read or find something damaged; and memory may run out.
+pub fn find_places<T: Table>(
     alloc: Global,
     table: &mut T,
     index: u32,
