@@ -1,5 +1,5 @@
 -- The first parts of keys as numbers, so that keys compare by these first.
-use Rattle.std.specs.Prelude.{◌≡◌, ℕ, zero, suc, ◌+◌, ◌-◌, ◌*◌, ◌<◌, ◌≤◌, ℤ, pos, ◌+ℤ◌, Bool, true, false, List, [], ◌∷◌}
+use Rattle.std.specs.Prelude.{◌≡◌, ℕ, zero, suc, ◌+◌, ◌-◌, ◌*◌, ◌^◌, ◌<◌, ◌≤◌, ℤ, pos, ◌+ℤ◌, Bool, true, false, List, [], ◌∷◌}
 use Rattle.rx_value.specs.declared.values.Value.{Value}
 use Rattle.rx_value.specs.declared.values.Value.TheVariants.{Null, Int, Text}
 use Rattle.rx_value.specs.declared.shapes.Part.{Part}
@@ -7,6 +7,10 @@ use Rattle.rx_value.specs.Keys.{part_value}
 use Rattle.rx_index.specs.declared.heads.Shape.{Shape}
 use Rattle.rx_index.specs.declared.heads.Shape.TheVariants.{Whole, Short, Front}
 use Rattle.rx_index.specs.declared.heads.Field.{Field}
+
+-- so many digits to a base behind a number are a number of 128 bits
+abbrev pub HasRoom : ℕ → ℕ → ℕ → Type 0
+HasRoom base before digits = (before + 1) * base ^ digits < 2 ^ 128
 
 -- a number, and behind it the first bytes of a text to the base of 256, zeros where it has no more
 abbrev pub IsFront : ℕ → ℕ → List ℕ → ℕ → Type 0

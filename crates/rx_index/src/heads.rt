@@ -1,8 +1,11 @@
-ghost use Rattle.std.specs.Prelude.{◌≡◌, ◌+◌, ◌<◌, IfSome};
+ghost use Rattle.std.specs.Prelude.{◌≡◌, ◌+◌, ◌<◌, ◌≤◌, length, IfSome};
 ghost use Rattle.rx_value.specs.Parts.{borrowed};
-ghost use Rattle.rx_index.specs.Heads.{IsFront, IsShort, IsWhole, IsShaped, IsDigit, IsHead, count_of};
+ghost use Rattle.rx_index.specs.Heads.{HasRoom, IsFront, IsShort, IsWhole, IsShaped, IsDigit, IsHead, count_of};
 
 use rx_value::{Part, PartValue, Row};
+
+/// So many bytes of a text have a number, to the base of 256 and to that of 257.
+pub(crate) const MOST_BYTES: u32 = 15;
 
 /// How the values of a part are numbered, in their order from 0 on: NULL first, then so many integers from the least one
 /// on, or texts of at most so many bytes, or texts by their first bytes.
@@ -20,35 +23,55 @@ pub(crate) struct Field {
     pub shape: Shape,
 }
 
+// The number of a text's first bytes behind those of a number.
 #[tactic(auto, using(crate::proofs::Fronts::front_past, crate::proofs::Fronts::front_on))]
-// The number of a text's first bytes behind those of a number, none where it is too large.
-fn front(before: u128, bytes: u32, text: &[u8]) -> Option<u128>
-    ensures { IfSome result (λ n. IsFront before bytes text.now n) }
+fn front(before: u128, bytes: u32, text: &[u8]) -> u128
+    requires room { HasRoom 256 before bytes }
+    ensures { IsFront before bytes text.now result }
 {
     let Some(bytes) = bytes.checked_sub(1) else {
-        return Some(before);
+        return before;
     };
-    let before = before.checked_mul(256)?;
     match text.split_first() {
-        None => front(before, bytes, text),
-        Some((byte, rest)) => front(before.checked_add(u128::from(*byte))?, bytes, rest),
+        None => front(before * 256, bytes, text),
+        Some((byte, rest)) => front(before * 256 + u128::from(*byte), bytes, rest),
     }
 }
 
-// The number of a text of at most so many bytes behind those of a number, none where it has more or the number is too
-// large.
+// The number of a text of at most so many bytes behind those of a number.
 #[tactic(auto, using(crate::proofs::Fronts::short_past, crate::proofs::Fronts::short_on, crate::proofs::Fronts::short_end))]
-fn short(before: u128, bytes: u32, text: &[u8]) -> Option<u128>
-    ensures { IfSome result (λ n. IsShort before bytes text.now n) }
+fn short(before: u128, bytes: u32, text: &[u8]) -> u128
+    requires room { HasRoom 257 before bytes }
+    requires fits { length text.now ≤ bytes }
+    ensures { IsShort before bytes text.now result }
 {
     let Some(bytes) = bytes.checked_sub(1) else {
-        return if text.is_empty() { Some(before) } else { None };
+        return before;
     };
-    let before = before.checked_mul(257)?;
     match text.split_first() {
-        None => short(before, bytes, text),
-        Some((byte, rest)) => short(before.checked_add(u128::from(*byte) + 1)?, bytes, rest),
+        None => short(before * 257, bytes, text),
+        Some((byte, rest)) => short(before * 257 + (u128::from(*byte) + 1), bytes, rest),
     }
+}
+
+// The number of a text's first bytes, none where it may be too large.
+fn front_place(bytes: u32, text: &[u8]) -> Option<u128>
+    ensures { IfSome result (λ n. IsFront 0 bytes text.now n) }
+{
+    if bytes > MOST_BYTES {
+        return None;
+    }
+    Some(front(0, bytes, text))
+}
+
+// The number of a text of at most so many bytes, none where it has more, or where the number may be too large.
+fn short_place(bytes: u32, text: &[u8]) -> Option<u128>
+    ensures { IfSome result (λ n. IsShort 0 bytes text.now n) }
+{
+    if bytes > MOST_BYTES || text.len() > bytes as usize {
+        return None;
+    }
+    Some(short(0, bytes, text))
 }
 
 // The number of an integer among those from the least one on.
@@ -82,11 +105,11 @@ fn shaped(shape: Shape, value: PartValue<'_>) -> Option<u128>
         (_, PartValue::Null) => Some(0),
         (Shape::Whole { least, count }, PartValue::Int(n)) => place_of(least, count, n),
         (Shape::Short { bytes, count }, PartValue::Text(text)) => behind_null(
-            short(0, bytes, text)?,
+            short_place(bytes, text)?,
             count,
         ),
         (Shape::Front { bytes, count }, PartValue::Text(text)) => behind_null(
-            front(0, bytes, text)?,
+            front_place(bytes, text)?,
             count,
         ),
         _ => None,

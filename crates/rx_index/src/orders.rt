@@ -58,10 +58,10 @@ fn compare_placed(parts: &[Part], rows: &[Row], other: &Row, a: &Placed, b: &Pla
 fn compare_words(a: &Placed, b: &Placed) -> Ordering
     ensures { result ≡ words_cmp a.now b.now }
 {
-    a.head
-        .cmp(&b.head)
-        .then(a.next.cmp(&b.next))
-        .then(a.id.cmp(&b.id))
+    match a.head.cmp(&b.head) {
+        Ordering::Equal => a.next.cmp(&b.next).then(a.id.cmp(&b.id)),
+        order => order,
+    }
 }
 
 fn second_word(words: &Words, row: &Row) -> Option<u128>

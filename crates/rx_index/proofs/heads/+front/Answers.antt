@@ -1,6 +1,19 @@
-use Rattle.std.proofs.Common.{rules}
-use Rattle.rx_index.proofs.Fronts.{no_length, front_past}
+use Rattle.std.proofs.Common.{arith, rules}
+use Rattle.rx_index.proofs.Fronts.{room_on, room_past, digit_fits}
 use Rattle.rx_index.proofs.heads.+front.Goals as goal
 
-pub returns-in-None : goal.returns-in-None
-returns-in-None t c = front_past c.args.before c.args.bytes c.in-Some.bytes c.args.text.now c.front.result (search rules) (no_length c.args.text.now c.in-None.ensures.cases) (search rules)
+pub overflow_mul-before : goal.overflow_mul-before
+overflow_mul-before t c = omega (arith, digit_fits 256 c.args.before c.args.bytes c.in-Some.bytes 0 (search rules) (omega arith) c.requires.room)
+
+pub front-requires : goal.front-requires
+front-requires t c = (omega (arith, c.decreases, c.in-Some.ensures), (room_past 256 c.args.before c.args.bytes c.in-Some.bytes (search rules) (omega arith) c.requires.room))
+
+pub overflow_mul-before-in-Some-split_first : goal.overflow_mul-before-in-Some-split_first
+overflow_mul-before-in-Some-split_first t c = omega (arith, digit_fits 256 c.args.before c.args.bytes c.in-Some.bytes 0 (search rules) (omega arith) c.requires.room)
+
+pub overflow_add-before : goal.overflow_add-before
+overflow_add-before t c = omega (arith, digit_fits 256 c.args.before c.args.bytes c.in-Some.bytes c.from.result (search rules) (search rules) c.requires.room)
+
+pub front-requires-in-Some-split_first : goal.front-requires-in-Some-split_first
+front-requires-in-Some-split_first t c =
+    (omega (arith, c.decreases, c.in-Some.ensures), (room_on 256 c.args.before c.args.bytes c.in-Some.bytes c.from.result (search rules) (search rules) c.requires.room))
