@@ -1,11 +1,11 @@
-ghost use Rattle.std.specs.Prelude.{◌≡◌, ◌≤◌, ◌<◌, take, length, IfOk, All};
+ghost use Rattle.std.specs.Prelude.{◌≡◌, ◌≤◌, ◌<◌, ◌+◌, ◌^◌, take, length, IfOk, All};
 ghost use Rattle.std.specs.Ordering.{is_eq};
 ghost use Rattle.rx_value.specs.Limits.{most_rows};
 ghost use Rattle.rx_value.specs.Shape.{IsSchema};
 ghost use Rattle.rx_value.specs.Keys.{key_cmp};
 ghost use Rattle.rx_index.specs.Entries.{IsOrder, IsEntered, entry_key};
-ghost use Rattle.rx_stats.specs.Steps.{is_new};
-ghost use Rattle.rx_stats.specs.Computed.{HasDifferent, fronts, per_key, AreNumbers, IsComputed};
+ghost use Rattle.rx_stats.specs.Steps.{is_new, IsCounted, AreDifferent};
+ghost use Rattle.rx_stats.specs.Computed.{per_key, AreNumbers, IsComputed};
 ghost use Rattle.rx_stats.specs.Statistics.{IsStatistics};
 
 use rx_index::Indexed;
@@ -43,20 +43,36 @@ fn is_new(parts: &[Part], rows: &[Row], ids: &[u32], place: usize) -> bool
     place == 0 || !is_same(parts, rows, ids[place - 1], ids[place])
 }
 
-// How many different keys the entries of an index have on its first parts.
-fn different(parts: &[Part], n: usize, rows: &[Row], ids: &[u32]) -> u32
-    requires order { IsOrder parts.now rows.now ids.now }
-    requires few { length rows.now ≤ most_rows }
-    ensures { HasDifferent (fronts parts.now n rows.now) result }
+// Counts an entry for each number of first parts on which it has another key than the one before it.
+fn count_entry(counts: &mut [u32], parts: &[Part], rows: &[Row], ids: &[u32], place: usize)
+    requires within { place < length ids.now }
+    requires below { All (λ id. id < length rows.now) ids.now }
+    requires few { All (λ count. count + 1 < 2 ^ 32) counts.old }
+    ensures { IsCounted parts.now rows.now ids.now place (length counts.old) counts.old counts.new }
 {
-    let front = first_parts(parts, n);
-    let mut count = 0;
-    for place in 0..ids.len() {
-        if is_new(front, rows, ids, place) {
-            count += 1;
+    for n in 0..counts.len() {
+        if is_new(first_parts(parts, n + 1), rows, ids, place) {
+            counts[n] += 1;
         }
     }
-    count
+}
+
+// How many different keys the entries of an index have on its first part, on its first two, and so on.
+fn different(
+    alloc: Global,
+    parts: &[Part],
+    rows: &[Row],
+    ids: &[u32],
+) -> Result<Vec<u32>, AllocError>
+    requires order { IsOrder parts.now rows.now ids.now }
+    requires few { length rows.now ≤ most_rows }
+    ensures { IfOk result (λ counts. AreDifferent parts.now rows.now counts.items) }
+{
+    let mut counts = vec![in alloc; 0; parts.len()]?;
+    for place in 0..ids.len() {
+        count_entry(counts.as_mut_slice(), parts, rows, ids, place);
+    }
+    Ok(counts)
 }
 
 // So many rows for each of so many keys, at least 1.
@@ -81,9 +97,9 @@ fn numbers_of(
     ensures { IfOk result (λ numbers. AreNumbers parts.now rows.now numbers) }
 {
     let mut numbers = NumberList::with_capacity(alloc, parts.len())?;
-    for n in 0..parts.len() {
-        let count = different(parts, n + 1, rows, ids);
-        numbers.push(per_key(rows.len() as u32, count))?;
+    let counts = different(alloc, parts, rows, ids)?;
+    for count in counts.as_slice() {
+        numbers.push(per_key(rows.len() as u32, *count))?;
     }
     Ok(numbers)
 }

@@ -1,7 +1,6 @@
-use Rattle.std.proofs.Common.{◌≤◌}
-use Rattle.rx_stats.specs.Steps.{AreSeen}
+use Rattle.rx_stats.specs.Steps.{AreSeenBefore}
 use Rattle.rx_stats.proofs.computing.different.Given as goal
 
--- the different keys of the entries so far
+-- the different keys of the entries so far, on the first part, on the first two, and so on
 abbrev pub invariant-loop-place : goal.invariant-loop-place
-invariant-loop-place l = (l.count ≤ l.place) × AreSeen l.parts l.n l.rows l.ids l.place l.count
+invariant-loop-place l = AreSeenBefore l.parts l.rows l.ids l.place l.counts.items
