@@ -1,0 +1,4 @@
+pub mod Ids
+pub mod Laws
+pub mod Merged
+pub mod Runs
