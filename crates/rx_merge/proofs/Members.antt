@@ -115,15 +115,17 @@ module _ {X : Type 0} (number : X → ℕ) where
       abbrev all_pass : ℕ → Bool
       all_pass n = list_all (λ x. passes x id) (of n xs)
 
+      passes_by : (n : ℕ) (ids : List ℕ) → get nat_cmp members n ≡ Some ids → has_id ids id ≡ true → some_pass (λ x. passes x id) xs ≡ true
+      passes_by n ids found has =
+          let member : HasOfAll passes (of n xs) (Some ids) = subst (HasOfAll passes (of n xs)) found (all n) in
+          let one = Any-from_list_any (λ x. nat_eq (number x) n) xs (any_from_kept (λ x. nat_eq (number x) n) xs member.0) in
+          list_any-from_Any (λ x. all_pass (number x)) xs
+          (one.0, one.1, one.2, one.3, ap all_pass (eqb-true (number one.1) n one.4) ∙ sym (member.1 id) ∙ has)
+
       held_passes : list_any (λ held. has_id held id) (values members) ≡ true → some_pass (λ x. passes x id) xs ≡ true
       held_passes e =
           let at = Any-from_list_any (λ e. has_id e.1 id) members.entries (sym (any_mapped (λ held. has_id held id) (λ e. e.1) members.entries) ∙ e) in
-          let entry = at.1 in
-          let found : get nat_cmp members entry.0 ≡ Some entry.1 = (btree_map_get_iff nat_cmp_total exact_unsigned members ordered entry.0 entry.1).1 (at.0, at.2, at.3) in
-          let member : HasOfAll passes (of entry.0 xs) (Some entry.1) = subst (HasOfAll passes (of entry.0 xs)) found (all entry.0) in
-          let one = Any-from_list_any (λ x. nat_eq (number x) entry.0) xs (any_from_kept (λ x. nat_eq (number x) entry.0) xs member.0) in
-          list_any-from_Any (λ x. all_pass (number x)) xs
-          (one.0, one.1, one.2, one.3, ap all_pass (eqb-true (number one.1) entry.0 one.4) ∙ sym (member.1 id) ∙ at.4)
+          passes_by at.1.0 at.1.1 ((btree_map_get_iff nat_cmp_total exact_unsigned members ordered at.1.0 at.1.1).1 (at.0, at.2, at.3)) at.4
 
       held_by : (x : X) → list_any (λ y. nat_eq (number y) (number x)) xs ≡ true → all_pass (number x) ≡ true → (o : Option (List ℕ)) → get nat_cmp members (number x) ≡ o → HasOfAll passes (of (number x) xs) o
           → list_any (λ e. has_id e.1 id) members.entries ≡ true

@@ -7,9 +7,10 @@ use Rattle.rx_index.specs.declared.indexed.Indexed.{Indexed}
 use Rattle.rx_store.specs.declared.tables.Counts.{Counts}
 use Rattle.rx_store.specs.Tables.{Meaning, add_counts}
 use Rattle.rx_cost.specs.declared.candidates.Scan.{Scan}
+use Rattle.rx_cost.specs.declared.candidates.Candidate.{Candidate}
 use Rattle.rx_estimate.specs.Estimates.{with_seeks}
-use Rattle.rx_merge.specs.Merged.{entries_read, count_ranges, reads_of}
-use Rattle.rx_merge.specs.Runs.{ReadsIds}
+use Rattle.rx_merge.specs.Merged.{entries_of, entries_read, count_ranges, reads_of}
+use Rattle.rx_merge.specs.Runs.{ReadsIds, ReadsVisits}
 
 -- counts of the same numbers
 same_counts : (a b : Counts) → a.seeks ≡ b.seeks → a.entries ≡ b.entries → a.rows ≡ b.rows → a ≡ b
@@ -78,3 +79,11 @@ entry_more n old mid new p q = q ∙ ap (λ (c : Counts). record c { entries = r
 -- no entry yet
 pub entry_none : (c : Counts) → c ≡ add_counts (reads_of [] 0) c
 entry_none c = same_counts c (add_counts (reads_of [] 0) c) (sym (rise_none c.seeks)) (sym (rise_none c.entries)) (sym (rise_none c.rows))
+
+exact_told : (told : Option Indexed) (scans : List Scan) (n m : ℕ) (old new : Counts) → IfSome told (λ t. n ≡ m) → new ≡ add_counts (reads_of scans n) old → IfSome told (λ t. new ≡ add_counts (reads_of scans m) old)
+exact_told None scans n m old new h e = tt
+exact_told (Some t) scans n m old new h e = e ∙ ap (λ k. add_counts (reads_of scans k) old) h
+
+-- where it is told, what a candidate reads was read
+pub reads_exact : (table : Meaning) (c : Candidate) (old new : Counts) → ReadsIds table c.scans old new → ReadsVisits table c old new
+reads_exact table c old new r = exact_told table.told c.scans r.entries (entries_of table c.scans) old new r.told r.counts

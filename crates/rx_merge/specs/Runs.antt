@@ -5,7 +5,7 @@ use Rattle.rx_store.specs.declared.tables.Counts.{Counts}
 use Rattle.rx_store.specs.Tables.{Meaning, WhereTold, add_counts}
 use Rattle.rx_cost.specs.declared.candidates.Scan.{Scan}
 use Rattle.rx_cost.specs.declared.candidates.Candidate.{Candidate}
-use Rattle.rx_merge.specs.Merged.{merged_ids, entries_of, reads_of}
+use Rattle.rx_merge.specs.Merged.{merged_ids, entries_of, reads_of, merge_visits}
 
 -- The ids of a merge that is opened are those of its candidate, where they are told; told or not, each is that of a row, and they rise.
 pub record IsOpened (table : Meaning) (candidate : Candidate) (left : List ℕ) : Type 0 where
@@ -18,6 +18,10 @@ pub record ReadsIds (table : Meaning) (scans : List Scan) (old new : Counts) : T
   pub entries : ℕ
   pub told : WhereTold table (entries ≡ entries_of table scans)
   pub counts : new ≡ add_counts (reads_of scans entries) old
+
+-- where it is told, the counts rose by exactly what a candidate reads
+abbrev pub ReadsVisits : Meaning → Candidate → Counts → Counts → Type 0
+ReadsVisits table candidate old new = WhereTold table (new ≡ add_counts (merge_visits candidate table) old)
 
 -- no id or one was handed out: none exactly where none was left, else the first, which is left no more
 abbrev pub HandsOut : List ℕ → List ℕ → Option ℕ → Type 0

@@ -1,7 +1,7 @@
 ghost use Rattle.std.specs.Prelude.{◌≡◌, None, Some, IfOk, IfErr, IsOk, OnOk};
 ghost use Rattle.rx_store.specs.Tables.{Keeps};
 ghost use Rattle.rx_merge.specs.Merged.{IsMerge};
-ghost use Rattle.rx_merge.specs.Runs.{IsOpened, ReadsIds, HandsOut};
+ghost use Rattle.rx_merge.specs.Runs.{IsOpened, ReadsIds, ReadsVisits, HandsOut};
 
 use crate::gathering::gather;
 use crate::ids::any_of;
@@ -37,6 +37,7 @@ pub fn open_merge<T: Table>(
 ) -> Result<MergeRun, TableFault>
     requires { IsMerge (T.means table.old).schema c.now }
     ensures opened { IfOk result (IsOpened (T.means table.old) c.now) }
+    ensures counts { OnOk result (ReadsVisits (T.means table.old) c.now (T.tally table.old).counts (T.tally table.new).counts) }
     ensures reads { OnOk result (ReadsIds (T.means table.old) c.now.scans (T.tally table.old).counts (T.tally table.new).counts) }
     ensures keeps { OnOk result (Keeps T.means T.tally T.kept T.spent None table.old table.new) }
     ensures cause { IfErr result (λ f. Keeps T.means T.tally T.kept T.spent (Some f) table.old table.new) }
