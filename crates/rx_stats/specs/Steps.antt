@@ -1,12 +1,13 @@
 -- The keys of the first entries.
-use Rattle.std.specs.Prelude.{◌≡◌, ℕ, ◌+◌, ◌-◌, ◌<◌, ◌≤◌, Bool, true, false, not, ◌&&◌, ◌||◌, nat_eq, List, length, take, All}
+use Rattle.std.specs.Prelude.{◌≡◌, ℕ, ◌+◌, ◌-◌, ◌<◌, Bool, false, not, ◌&&◌, ◌||◌, nat_eq, List, length, take, map, filter, All}
 use Rattle.std.specs.List.{AllPairs, Contains}
 use Rattle.std.proofs.Common.{get_or, ltb}
 use Rattle.std.specs.Ordering.{is_eq}
-use Rattle.rx_value.specs.Keys.{key_cmp}
+use Rattle.rx_value.specs.Keys.{part_value, part_cmp, key_cmp}
 use Rattle.rx_value.specs.declared.values.Value.{Value}
+use Rattle.rx_value.specs.declared.values.Value.TheVariants.{Null}
 use Rattle.rx_value.specs.declared.shapes.Part.{Part}
-use Rattle.rx_index.specs.Entries.{entry_key}
+use Rattle.rx_index.specs.Entries.{row_at, entry_key}
 use Rattle.rx_stats.specs.Computed.{HasDifferent, fronts, IsPerKey}
 
 -- the key of the entry at a place, on the first parts
@@ -30,22 +31,38 @@ pub record AreNumbersTo (parts : List Part) (rows : List (List Value)) (count : 
   pub as_many : length numbers ≡ count
   pub each : (i : ℕ) → i < count → IsPerKey parts (i + 1) rows (get_or numbers i 0)
 
--- one more where a test is passed
-abbrev pub counted : Bool → ℕ → ℕ
-counted true n = n + 1
-counted false n = n
+-- the values that the rows with these ids have on a part
+abbrev pub values_of : Part → List (List Value) → List ℕ → List Value
+values_of part rows ids = map (λ id. part_value part (row_at rows id)) ids
 
--- of the first numbers, each is one more where the entry at a place has another key than the one before it, on one part more than its own place; the others stay
-pub record IsCounted (parts : List Part) (rows : List (List Value)) (ids : List ℕ) (place first : ℕ) (old new : List ℕ) : Type 0 where
+-- how many are marked
+abbrev pub count_marked : List Bool → ℕ
+count_marked marks = length (filter (λ m. m) marks)
+
+-- of so many the first alone is marked
+pub record IsFirstMarked (count : ℕ) (marks : List Bool) : Type 0 where
+  pub as_many : length marks ≡ count
+  pub each : (i : ℕ) → i < count → get_or marks i false ≡ nat_eq i 0
+
+-- a value is before a place and not the first, and another than the one before it
+abbrev pub differs : Bool → List Value → ℕ → ℕ → Bool
+differs falling values place i = ltb 0 i && (ltb i place && not (is_eq (part_cmp falling (get_or values (i - 1) Null) (get_or values i Null))))
+
+-- besides what was marked, before a place that is marked of which the value is another than the one before it
+pub record AreMarkedTo (falling : Bool) (values : List Value) (place : ℕ) (old new : List Bool) : Type 0 where
   pub as_many : length new ≡ length old
-  pub each : (i : ℕ) → i < length old → get_or new i 0 ≡ counted (ltb i first && is_new (take (i + 1) parts) rows ids place) (get_or old i 0)
+  pub each : (i : ℕ) → i < length old → get_or new i false ≡ (get_or old i false || differs falling values place i)
 
--- so many different keys are among those of the entries before a place, on the first part, on the first two, and so on
-pub record AreSeenBefore (parts : List Part) (rows : List (List Value)) (ids : List ℕ) (place : ℕ) (counts : List ℕ) : Type 0 where
-  pub as_many : length counts ≡ length parts
-  pub each : (i : ℕ) → i < length parts → (get_or counts i 0 ≤ place) × AreSeen parts (i + 1) rows ids place (get_or counts i 0)
+-- those entries are marked that are the first, or have another key on the first parts than the one before them
+pub record AreMarked (parts : List Part) (n : ℕ) (rows : List (List Value)) (ids : List ℕ) (marks : List Bool) : Type 0 where
+  pub as_many : length marks ≡ length ids
+  pub each : (i : ℕ) → i < length ids → get_or marks i false ≡ is_new (take n parts) rows ids i
 
--- so many different keys an index has on its first part, on its first two, and so on
-pub record AreDifferent (parts : List Part) (rows : List (List Value)) (counts : List ℕ) : Type 0 where
-  pub as_many : length counts ≡ length parts
-  pub each : (i : ℕ) → i < length parts → HasDifferent (fronts parts (i + 1) rows) (get_or counts i 0)
+-- so many different keys an index has on its first part, on its first two, and so on up to so many
+pub record AreDifferentTo (parts : List Part) (rows : List (List Value)) (n : ℕ) (counts : List ℕ) : Type 0 where
+  pub as_many : length counts ≡ n
+  pub each : (i : ℕ) → i < n → HasDifferent (fronts parts (i + 1) rows) (get_or counts i 0)
+
+-- the same on each number of first parts
+abbrev pub AreDifferent : List Part → List (List Value) → List ℕ → Type 0
+AreDifferent parts rows counts = AreDifferentTo parts rows (length parts) counts

@@ -1,60 +1,77 @@
-ghost use Rattle.std.specs.Prelude.{◌≡◌, ◌≤◌, ◌<◌, ◌+◌, ◌^◌, take, length, IfOk, All};
+ghost use Rattle.std.specs.Prelude.{◌≡◌, ◌≤◌, ◌<◌, map, length, IfOk, All};
 ghost use Rattle.std.specs.Ordering.{is_eq};
+ghost use Rattle.rx_value.specs.Parts.{borrowed};
 ghost use Rattle.rx_value.specs.Limits.{most_rows};
 ghost use Rattle.rx_value.specs.Shape.{IsSchema};
-ghost use Rattle.rx_value.specs.Keys.{key_cmp};
-ghost use Rattle.rx_index.specs.Entries.{IsOrder, IsEntered, entry_key};
-ghost use Rattle.rx_stats.specs.Steps.{is_new, IsCounted, AreDifferent};
+ghost use Rattle.rx_value.specs.Keys.{part_cmp};
+ghost use Rattle.rx_index.specs.Entries.{IsOrder, IsEntered};
+ghost use Rattle.rx_stats.specs.Steps.{values_of, count_marked, IsFirstMarked, AreMarkedTo, AreDifferent};
 ghost use Rattle.rx_stats.specs.Computed.{per_key, AreNumbers, IsComputed};
 ghost use Rattle.rx_stats.specs.Statistics.{IsStatistics};
 
 use rx_index::Indexed;
-use rx_value::{List, NumberList, Part, Row, compare_keys};
+use rx_value::{List, NumberList, Part, PartValue, Row};
 use std::alloc::{AllocError, Global};
 use std::cmp::Ordering;
 
 /// Per index one number for each of its parts: the records per key of the first part, of the first two, and so on.
 pub type Statistics = List<NumberList>;
 
-// Whether two entries have one key on these parts.
-fn is_same(parts: &[Part], rows: &[Row], a: u32, b: u32) -> bool
-    requires first { a < length rows.now }
-    requires second { b < length rows.now }
-    ensures { result ≡ is_eq (key_cmp parts.now (entry_key parts.now rows.now a) (entry_key parts.now rows.now b)) }
+// The values that the rows of entries have on a part, in the order of the entries. They are taken out first, so that the rows,
+// which lie anywhere in memory, are waited for together.
+fn values_on<'a>(
+    alloc: Global,
+    part: &Part,
+    rows: &'a [Row],
+    ids: &[u32],
+) -> Result<Vec<PartValue<'a>>, AllocError>
+    requires { All (λ id. id < length rows.now) ids.now }
+    ensures { IfOk result (λ values. map borrowed values.items ≡ values_of part.now rows.now ids.now) }
 {
-    match compare_keys(parts, &rows[a as usize], &rows[b as usize]) {
+    let mut values = Vec::with_capacity(alloc, ids.len())?;
+    for id in ids {
+        values.push(part.value(&rows[*id as usize]))?;
+    }
+    Ok(values)
+}
+
+fn is_same(falling: bool, a: PartValue<'_>, b: PartValue<'_>) -> bool
+    ensures { result ≡ is_eq (part_cmp falling (borrowed a.entry) (borrowed b.entry)) }
+{
+    match a.compare(b, falling) {
         Ordering::Equal => true,
         _ => false,
     }
 }
 
-fn first_parts(parts: &[Part], n: usize) -> &[Part]
-    ensures { result.now ≡ take n parts.now }
+// Marks the entries that have another value on a part than the one before them.
+fn mark(falling: bool, values: &[PartValue<'_>], marks: &mut [bool])
+    requires { length values.now ≡ length marks.old }
+    ensures { AreMarkedTo falling (map borrowed values.now) (length marks.old) marks.old marks.new }
 {
-    &parts[..n.min(parts.len())]
-}
-
-// Whether an entry is the first, or has another key than the one before it.
-fn is_new(parts: &[Part], rows: &[Row], ids: &[u32], place: usize) -> bool
-    requires within { place < length ids.now }
-    requires below { All (λ id. id < length rows.now) ids.now }
-    ensures { result ≡ is_new parts.now rows.now ids.now place }
-{
-    place == 0 || !is_same(parts, rows, ids[place - 1], ids[place])
-}
-
-// Counts an entry for each number of first parts on which it has another key than the one before it.
-fn count_entry(counts: &mut [u32], parts: &[Part], rows: &[Row], ids: &[u32], place: usize)
-    requires within { place < length ids.now }
-    requires below { All (λ id. id < length rows.now) ids.now }
-    requires few { All (λ count. count + 1 < 2 ^ 32) counts.old }
-    ensures { IsCounted parts.now rows.now ids.now place (length counts.old) counts.old counts.new }
-{
-    for n in 0..counts.len() {
-        if is_new(first_parts(parts, n + 1), rows, ids, place) {
-            counts[n] += 1;
+    for place in 1..marks.len() {
+        if !is_same(falling, values[place - 1], values[place]) {
+            marks[place] = true;
         }
     }
+}
+
+// The marks of so many entries of which the first alone is one.
+fn first_marks(alloc: Global, count: usize) -> Result<Vec<bool>, AllocError>
+    ensures { IfOk result (λ marks. IsFirstMarked count marks.items) }
+{
+    let mut marks = vec![in alloc; false; count]?;
+    if count > 0 {
+        marks[0] = true;
+    }
+    Ok(marks)
+}
+
+fn count_marks(marks: &[bool]) -> u32
+    requires { length marks.now ≤ most_rows }
+    ensures { result ≡ count_marked marks.now }
+{
+    marks.iter().filter(|mark| **mark).count() as u32
 }
 
 // How many different keys the entries of an index have on its first part, on its first two, and so on.
@@ -68,9 +85,12 @@ fn different(
     requires few { length rows.now ≤ most_rows }
     ensures { IfOk result (λ counts. AreDifferent parts.now rows.now counts.items) }
 {
-    let mut counts = vec![in alloc; 0; parts.len()]?;
-    for place in 0..ids.len() {
-        count_entry(counts.as_mut_slice(), parts, rows, ids, place);
+    let mut counts = Vec::with_capacity(alloc, parts.len())?;
+    let mut marks = first_marks(alloc, ids.len())?;
+    for part in parts {
+        let values = values_on(alloc, part, rows, ids)?;
+        mark(part.descending, values.as_slice(), marks.as_mut_slice());
+        counts.push(count_marks(marks.as_slice()))?;
     }
     Ok(counts)
 }

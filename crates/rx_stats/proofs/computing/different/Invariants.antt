@@ -1,6 +1,6 @@
-use Rattle.rx_stats.specs.Steps.{AreSeenBefore}
+use Rattle.rx_stats.specs.Steps.{AreMarked, AreDifferentTo}
 use Rattle.rx_stats.proofs.computing.different.Given as goal
 
--- the different keys of the entries so far, on the first part, on the first two, and so on
-abbrev pub invariant-loop-place : goal.invariant-loop-place
-invariant-loop-place l = AreSeenBefore l.parts l.rows l.ids l.place l.counts.items
+-- the different keys on the parts so far
+abbrev pub invariant-loop-part : goal.invariant-loop-part
+invariant-loop-part l = AreMarked l.parts l.part-index l.rows l.ids l.marks.items × AreDifferentTo l.parts l.rows l.part-index l.counts.items

@@ -1,0 +1,8 @@
+use Rattle.std.proofs.Common.{map}
+use Rattle.rx_value.specs.Parts.{borrowed}
+use Rattle.rx_stats.specs.Steps.{AreMarkedTo}
+use Rattle.rx_stats.proofs.computing.mark.Given as goal
+
+-- the places before this one are marked
+abbrev pub invariant-loop-place : goal.invariant-loop-place
+invariant-loop-place l = AreMarkedTo l.falling (map borrowed l.values) l.place l.initial.marks l.marks
