@@ -1,0 +1,4 @@
+pub mod Fitting
+pub mod Intersections
+pub mod Ordered
+pub mod Unions
