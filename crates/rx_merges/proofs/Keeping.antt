@@ -30,10 +30,14 @@ all_from : (P : Scan → Type 0) (xs ys : List Scan) → All P xs → All P ys �
 all_from P [] ys h k = k
 all_from P (x ∷ xs) ys h k = all_from P xs (placed ys x) (All-tail P x xs h) (all_placed P ys x k (All-head P x xs h))
 
+-- what holds of each scan holds of each of them sorted
+pub all_sorted : (P : Scan → Type 0) (scans : List Scan) → All P scans → All P (sorted scans)
+all_sorted P scans h = all_from P scans [] h (All-nil P)
+
 -- what holds of each scan holds of those that give row ids in rising order
 pub all_ordered : (P : Scan → Type 0) (schema : Schema) (scans : List Scan) → All P scans → All P (row_ordered schema scans)
 all_ordered P schema scans h =
-    all_from P (filter (is_row_ordered schema) scans) [] (All-filter (is_row_ordered schema) P scans h) (All-nil P)
+    all_sorted P (filter (is_row_ordered schema) scans) (All-filter (is_row_ordered schema) P scans h)
 
 -- and of the filters, where it doesn't look at the role
 pub all_filters : (P : Scan → Type 0) (schema : Schema) (scans : List Scan) → ((s : Scan) → P s → P (as_filter s)) → All P scans → All P (filters_in schema scans)

@@ -16,6 +16,7 @@ use Rattle.rx_merges.specs.Ordered.{row_ordered, filters_in}
 use Rattle.rx_merges.specs.Intersections.{ids_of, ids_in, ranges_in, rows_left, rows_met, do_meet, intersection_of, intersections_among}
 use Rattle.rx_merges.specs.Unions.{single, members_among, member_of}
 use Rattle.rx_merges.proofs.Keeping.{all_ordered, ordered_are, filters_are}
+use Rattle.rx_merges.proofs.Ruling.{some_at}
 
 -- scans over a table of so many rows have no more than may be counted
 pub all_counted : (count : ℕ) (scans : List Scan) → count ≤ most_counted → All (IsCounted count) scans → All (IsCounted most_counted) scans
@@ -72,9 +73,4 @@ module _ (schema : Schema) (count : ℕ) (few : count ≤ most_counted) (scans :
 
   -- the member of a disjunct
   pub member_few : (intersect : Bool) → IfSome (member_of intersect schema count scans) IsMember
-  member_few intersect = at (members_among intersect schema count scans) (chosen_place (members_among intersect schema count scans)) (members_few intersect)
-    where
-      at : (list : List Candidate) (place : ℕ) → All IsMember list → IfSome (slice_get list place) IsMember
-      at [] place h = tt
-      at (x ∷ xs) zero h = All-head IsMember x xs h
-      at (x ∷ xs) (suc place) h = at xs place (All-tail IsMember x xs h)
+  member_few intersect = some_at IsMember (members_among intersect schema count scans) (chosen_place (members_among intersect schema count scans)) (members_few intersect)

@@ -32,3 +32,12 @@ not_there f (x ∷ xs) (suc i) d within e = by_first (f x) (not_there f xs i d (
     by_first : (o : Option _) → all_there (map f xs) ≡ None → all_there (o ∷ map f xs) ≡ None
     by_first None h = refl
     by_first (Some y) h = ap (option_map (λ ys. y ∷ ys)) h
+
+-- where the first and the rest all give something
+pub split_there : {A : Type 0} (o : Option A) (os : List (Option A)) (xs : List A) → all_there (o ∷ os) ≡ Some xs → (x : A) × (ys : List A) × (o ≡ Some x) × (all_there os ≡ Some ys) × (x ∷ ys ≡ xs)
+split_there None os xs e = absurd (cc e)
+split_there (Some x) os xs e = by_rest (all_there os) refl e
+  where
+    by_rest : (o : Option (List _)) → all_there os ≡ o → option_map (λ ys. x ∷ ys) o ≡ Some xs → (y : _) × (ys : List _) × (Some x ≡ Some y) × (all_there os ≡ Some ys) × (y ∷ ys ≡ xs)
+    by_rest None is h = absurd (cc h)
+    by_rest (Some ys) is h = (x, ys, refl, is, cc h)

@@ -1,4 +1,5 @@
 pub mod Fitting
 pub mod Intersections
 pub mod Ordered
+pub mod Rules
 pub mod Unions

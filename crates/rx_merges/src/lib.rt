@@ -4,8 +4,10 @@
 
 mod counts;
 mod intersections;
+mod laws;
 mod ordered;
 mod unions;
 
 pub use intersections::intersections_among;
+pub use laws::{intersections_keep_rules, unions_lose_no_row};
 pub use unions::{ScanLists, union_of};
