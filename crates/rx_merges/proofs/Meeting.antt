@@ -32,8 +32,8 @@ module _ (test : ℕ → List KeyRange → Bool) where
       All-cons (IsMarked n (all_meet test (s ∷ ss))) s ss
       (record { number = All-head (λ (x : Scan). x.member ≡ n) s ss h; meets = λ e. (and_parts (test s.index s.ranges) (all_meet test ss) e).0 })
       (All-weaker (IsMarked n (all_meet test ss)) (IsMarked n (all_meet test (s ∷ ss)))
-          (λ x k. record { number = k.number; meets = λ e. k.meets (and_parts (test s.index s.ranges) (all_meet test ss) e).1 }) ss
-          (marked n ss (All-tail (λ (x : Scan). x.member ≡ n) s ss h)))
+      (λ x k. record { number = k.number; meets = λ e. k.meets (and_parts (test s.index s.ranges) (all_meet test ss) e).1 }) ss
+      (marked n ss (All-tail (λ (x : Scan). x.member ≡ n) s ss h)))
 
   first_numbered : (n : ℕ) (all : Bool) (scans : List Scan) → AreMarked n all scans → list_any (λ s. nat_eq s.member n) scans ≡ true
   first_numbered n all [] h = absurd (omega (arith, h.some))
@@ -72,8 +72,8 @@ module _ (test : ℕ → List KeyRange → Bool) where
         let first = of_first n list s.0 numbered.0 s.2 in
         subst (λ (zs : List B). All P (flat_map g zs)) s.4
         (All-append P (g s.0) (flat_map g s.1)
-            (All-weaker (IsMarked n (all_meet test list)) P (λ y k. omega (arith, k.number)) (g s.0) first.each)
-            (All-weaker (λ (y : Scan). n + 1 ≤ y.member) P (λ y k. omega (arith, k)) (flat_map g s.1) (numbers_from (n + 1) lists s.1 s.3 numbered.1)))
+        (All-weaker (IsMarked n (all_meet test list)) P (λ y k. omega (arith, k.number)) (g s.0) first.each)
+        (All-weaker (λ (y : Scan). n + 1 ≤ y.member) P (λ y k. omega (arith, k)) (flat_map g s.1) (numbers_from (n + 1) lists s.1 s.3 numbered.1)))
 
     meets_first : (n : ℕ) (x : B) (ys : List B) → AreMarked n true (g x) → All (λ s. n + 1 ≤ s.member) (flat_map g ys) → Meets n (g x ++ flat_map g ys)
     meets_first n x ys first high = record {
@@ -157,6 +157,6 @@ module _ (test : ℕ → List KeyRange → Bool) where
     pub meets : (settings : Settings) (schema : Schema) (count : ℕ) → union_of settings schema count lists ≡ Some c → (member : ℕ) × DoesMeet test c.scans member
     meets settings schema count e =
         let m = of_either (if settings.union_on then union_among settings.intersection schema count lists else None) (if settings.sort_union then sort_union_among lists else None) e
-            (λ h. of_union settings.intersection schema count _ refl (where_asked settings.union_on (union_among settings.intersection schema count lists) h))
-            (λ h. of_sort_union _ refl (where_asked settings.sort_union (sort_union_among lists) h)) in
+        (λ h. of_union settings.intersection schema count _ refl (where_asked settings.union_on (union_among settings.intersection schema count lists) h))
+        (λ h. of_sort_union _ refl (where_asked settings.sort_union (sort_union_among lists) h)) in
         (m.member, m.does)

@@ -33,10 +33,7 @@ fn is_row_ordered(schema: &Schema, scan: &Scan) -> bool
     ensures { result ≡ is_row_ordered schema.now scan.now }
 {
     !is_primary(schema, scan.index)
-        && are_one_key(
-            scan.ranges.as_slice(),
-            parts_in(schema, scan.index).len(),
-        )
+        && are_one_key(scan.ranges.as_slice(), parts_in(schema, scan.index).len())
 }
 
 // Whether a scan goes before another: it has fewer rows, or as many and the lower index.

@@ -13,7 +13,9 @@ ghost use Rattle.rx_merges.specs.Unions.{all_there, single, members_among, membe
 use crate::counts::ids_of;
 use crate::intersections::intersections_among;
 use crate::ordered::row_ordered;
-use rx_cost::{Candidate, CandidateList, Kind, Scan, ScanList, choose, sort_union_cost, union_cost};
+use rx_cost::{
+    Candidate, CandidateList, Kind, Scan, ScanList, choose, sort_union_cost, union_cost,
+};
 use rx_plan::is_primary;
 use rx_query::Settings;
 use rx_value::{List, Schema};

@@ -1,0 +1,2 @@
+pub mod Disjuncts
+pub mod Merges
