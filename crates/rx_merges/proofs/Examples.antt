@@ -1,11 +1,9 @@
 -- Intersections and unions, by examples: a table of a thousand rows with a primary key and two indexes of one part.
-use Rattle.std.proofs.Common.{◌≡◌, ℕ, pos, Bool, true, false, List, [], ◌∷◌, map, Option, Some, None, option_map, refl}
-use Rattle.rx_value.specs.declared.values.Value.{Value}
+use Rattle.std.proofs.Common.{◌≡◌, ℕ, pos, Bool, true, false, List, [], ◌∷◌, map, Some, None, option_map, refl}
 use Rattle.rx_value.specs.declared.values.Value.TheVariants.{Int}
 use Rattle.rx_value.specs.declared.ranges.KeyRange.{KeyRange}
 use Rattle.rx_value.specs.declared.shapes.ColType.TheVariants.{Whole as WholeType}
 use Rattle.rx_value.specs.declared.shapes.Column.{Column}
-use Rattle.rx_value.specs.declared.shapes.Part.{Part}
 use Rattle.rx_value.specs.declared.shapes.Index.{Index}
 use Rattle.rx_value.specs.declared.shapes.Schema.{Schema}
 use Rattle.rx_query.specs.Settings.{default_settings}

@@ -1,6 +1,6 @@
 -- Scans that are picked and sorted are as many at most, and what holds of each still holds.
-use Rattle.std.proofs.Common.{◌≡◌, ◌≤◌, ◌<◌, ◌+◌, ℕ, Bool, not, List, [], ◌∷◌, ◌++◌, length, map, take, drop, All, refl, arith}
-use Rattle.std.specs.List.{fold, filter, insert, position_or_len, count_by}
+use Rattle.std.proofs.Common.{◌≡◌, ◌≤◌, ◌<◌, ◌+◌, ℕ, Bool, not, List, [], ◌∷◌, length, take, drop, All, arith}
+use Rattle.std.specs.List.{fold, filter, position_or_len}
 use Rattle.std.proofs.lemmas.List.{length-map}
 use Rattle.std.proofs.lemmas.List.Edits.{length-insert}
 use Rattle.std.proofs.lemmas.List.Elements.{All-nil, All-cons, All-append, All-take, All-drop, All-tail, All-head, All-filter, All-map, All-weaker}

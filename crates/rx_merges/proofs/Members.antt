@@ -1,19 +1,18 @@
 -- The members of a union cost no more than they may.
-use Rattle.std.proofs.Common.{◌≡◌, ◌≤◌, ◌<◌, ◌+◌, ◌*◌, ◌/◌, ℕ, zero, suc, max, Bool, true, false, List, [], ◌∷◌, ◌++◌, length, map, take, slice_get, Option, Some, None, IfSome, All, if◌then◌else◌, arith}
-use Rattle.std.specs.List.{fold, filter, sum_by, range_with_len}
+use Rattle.std.proofs.Common.{◌≤◌, ℕ, max, Bool, true, false, List, [], ◌∷◌, ◌++◌, length, map, take, IfSome, All, if◌then◌else◌, arith}
+use Rattle.std.specs.List.{fold, filter}
 use Rattle.std.proofs.Math.Nat.{div-le_of_le-mul, mul-le-mul}
 use Rattle.std.proofs.lemmas.List.{length-take}
 use Rattle.std.proofs.lemmas.List.Elements.{All-nil, All-append, All-take, All-head, All-tail, All-filter, All-map, All-weaker}
 use Rattle.std.proofs.lemmas.List.Sums.{sum_by-le}
 use Rattle.rx_value.specs.declared.shapes.Schema.{Schema}
 use Rattle.rx_cost.specs.declared.candidates.Scan.{Scan}
-use Rattle.rx_cost.specs.declared.candidates.Candidate.{Candidate}
 use Rattle.rx_cost.specs.Costs.{most_counted}
 use Rattle.rx_cost.specs.Choice.{chosen_place}
 use Rattle.rx_plan.specs.Naming.{is_primary}
-use Rattle.rx_merges.specs.Fitting.{IsCounted, AreScans, IsMember, most_scans, most_ids}
+use Rattle.rx_merges.specs.Fitting.{IsCounted, AreScans, IsMember, most_ids}
 use Rattle.rx_merges.specs.Ordered.{row_ordered, filters_in}
-use Rattle.rx_merges.specs.Intersections.{ids_of, ids_in, ranges_in, rows_left, rows_met, do_meet, intersection_of, intersections_among}
+use Rattle.rx_merges.specs.Intersections.{ids_of, rows_left, rows_met, intersection_of, intersections_among}
 use Rattle.rx_merges.specs.Unions.{single, members_among, member_of}
 use Rattle.rx_merges.proofs.Keeping.{all_ordered, ordered_are, filters_are}
 use Rattle.rx_merges.proofs.Ruling.{some_at}

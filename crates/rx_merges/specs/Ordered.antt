@@ -1,5 +1,5 @@
 -- Scans that give row ids in rising order, and the scan of the primary key that filters them.
-use Rattle.std.specs.Prelude.{ℕ, Bool, true, false, not, ◌&&◌, ◌||◌, nat_eq, nat_lt, if◌then◌else◌, List, [], ◌∷◌, length, map}
+use Rattle.std.specs.Prelude.{ℕ, Bool, true, false, not, ◌&&◌, ◌||◌, nat_eq, nat_lt, List, [], ◌∷◌, length, map}
 use Rattle.std.specs.List.{fold, filter, insert, position_or_len}
 use Rattle.std.specs.Option.{is_none}
 use Rattle.rx_value.specs.declared.ranges.KeyRange.{KeyRange}

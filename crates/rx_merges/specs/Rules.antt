@@ -1,5 +1,5 @@
 -- What holds of each intersection and union, whatever the scans are.
-use Rattle.std.specs.Prelude.{◌≡◌, ◌<◌, ◌≤◌, ℕ, suc, ◌+◌, Bool, true, nat_eq, List, [], ◌∷◌, ◌++◌, length, All}
+use Rattle.std.specs.Prelude.{◌≡◌, ◌≤◌, ℕ, ◌+◌, Bool, true, nat_eq, List, [], ◌∷◌, ◌++◌, length, All}
 use Rattle.std.specs.List.{list_any, list_all, filter}
 use Rattle.rx_value.specs.declared.ranges.KeyRange.{KeyRange}
 use Rattle.rx_value.specs.declared.shapes.Schema.{Schema}

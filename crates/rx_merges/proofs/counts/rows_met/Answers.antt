@@ -1,4 +1,4 @@
-use Rattle.std.proofs.Common.{◌∷◌, All, sym, subst, arith}
+use Rattle.std.proofs.Common.{All, sym, subst}
 use Rattle.std.proofs.lemmas.List.Elements.{All-tail, All-get_or}
 use Rattle.rx_merges.specs.Fitting.{IsCounted}
 use Rattle.rx_merges.proofs.counts.rows_met.Goals as goal

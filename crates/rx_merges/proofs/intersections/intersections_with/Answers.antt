@@ -1,4 +1,4 @@
-use Rattle.std.proofs.Common.{◌∷◌, [], ◌++◌, ap, ap₂, sym, ◌∙◌}
+use Rattle.std.proofs.Common.{◌∷◌, [], ◌++◌, ap₂, sym, ◌∙◌}
 use Rattle.rx_merges.specs.Intersections.{do_meet, intersection_of}
 use Rattle.rx_merges.proofs.Fronts.{front_more, front_same}
 use Rattle.rx_merges.proofs.intersections.intersections_with.Goals as goal

@@ -1,4 +1,4 @@
-use Rattle.std.proofs.Common.{◌≡◌, ◌+◌, ◌∷◌, [], ◌++◌, length, Some, All, ap, sym, ◌∙◌, subst, arith, IfSome, Option}
+use Rattle.std.proofs.Common.{◌∷◌, [], length, Some, All, ap, sym, ◌∙◌, subst, arith, IfSome, Option}
 use Rattle.std.proofs.lemmas.List.{length-append}
 use Rattle.std.proofs.lemmas.List.Elements.{All-push}
 use Rattle.rx_cost.specs.declared.candidates.Scan.{Scan}

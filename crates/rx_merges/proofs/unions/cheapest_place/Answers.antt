@@ -1,4 +1,4 @@
-use Rattle.std.proofs.Common.{◌≡◌, ◌<◌, ◌≤◌, get_or, ap, arith}
+use Rattle.std.proofs.Common.{ap, arith}
 use Rattle.rx_merges.specs.Intersections.{ids_of}
 use Rattle.rx_merges.proofs.Least.{scan-lower, scan-kept}
 use Rattle.rx_merges.proofs.unions.cheapest_place.Goals as goal

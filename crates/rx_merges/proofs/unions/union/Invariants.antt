@@ -1,4 +1,4 @@
-use Rattle.std.proofs.Common.{◌≡◌, ◌≤◌, ◌*◌, ◌++◌, length}
+use Rattle.std.proofs.Common.{◌≡◌, ◌≤◌, ◌*◌, length}
 use Rattle.std.specs.List.{flat_map, sum_by}
 use Rattle.rx_cost.specs.Choice.{cost_of}
 use Rattle.rx_cost.specs.Costs.{most_counted}
