@@ -1,5 +1,5 @@
 -- The intersections and the unions of a question, in order.
-use Rattle.std.specs.Prelude.{ℕ, true, if◌then◌else◌, List, []}
+use Rattle.std.specs.Prelude.{true, if◌then◌else◌, List, []}
 use Rattle.std.specs.List.{filter_map}
 use Rattle.rx_query.specs.declared.settings.Settings.{Settings}
 use Rattle.rx_query.specs.Steps.{Question}
