@@ -3,9 +3,14 @@ pub mod Firsts
 pub mod Fronts
 pub mod Holding
 pub mod Making
+pub mod Marking
+pub mod NewWords
 pub mod Numbering
 pub mod Numbers
 pub mod Repeating
 pub mod Rising
+pub mod Risen
+pub mod Seeing
 pub mod Sorting
+pub mod Spaces
 pub mod Standing

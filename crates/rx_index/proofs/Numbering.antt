@@ -19,7 +19,7 @@ use Rattle.rx_index.specs.declared.heads.Field.{Field}
 use Rattle.rx_index.specs.declared.orders.Placed.{Placed}
 use Rattle.rx_index.specs.Entries.{row_at, entry_cmp}
 use Rattle.rx_index.specs.Heads.{IsHead, IsFields, AreExact}
-use Rattle.rx_index.specs.Placed.{placed_cmp, words_cmp, IsPlaced, ids_in, ArePlaced, IsWords, IsNumbered, IsOrdered}
+use Rattle.rx_index.specs.Placed.{placed_cmp, words_cmp, IsPlaced, ids_in, ArePlaced, IsWords, IsNumbered, IsOrdered, TellApart}
 use Rattle.rx_index.proofs.Sorting.{range_more, entry_total}
 use Rattle.rx_index.proofs.Rising.{head_rises, same_head}
 use Rattle.std.proofs.Math.ListN.{drop_of_length-le, length-drop}
@@ -155,6 +155,13 @@ order_is parts rows list sorted whole h moved up = order_by parts rows list sort
 pub order_of_words : (parts : List Part) (rows : List (List Value)) (list sorted : List Placed) → IsNumbered parts rows list true → IsPermutation list sorted → IsSortedBy (λ x y. is_lt (words_cmp x y)) sorted
     → IsOrdered parts rows sorted
 order_of_words parts rows list sorted h moved up = order_by parts rows list sorted true h words_cmp (agree_whole parts rows h.first h.second true h.words refl) moved up
+
+-- rows with the same words have equal keys where these are whole
+pub apart_by_words : (parts : List Part) (rows : List (List Value)) (list sorted : List Placed) → IsNumbered parts rows list true → IsPermutation list sorted → TellApart parts rows sorted
+apart_by_words parts rows list sorted h moved i j d il jl e n =
+    let placed = All-permutation (IsPlaced h.first h.second rows) list sorted moved h.placed.heads in
+    same_key parts rows h.first h.second true h.words refl (get_or sorted j d) (get_or sorted i d)
+    (All-get_or (IsPlaced h.first h.second rows) sorted j d jl placed) (All-get_or (IsPlaced h.first h.second rows) sorted i d il placed) e n
 
 -- no words at all
 pub none_numbered : (parts : List Part) (rows : List (List Value)) (list : List Placed) → ArePlaced [] [] rows (length rows) list → IsNumbered parts rows list false

@@ -12,7 +12,8 @@ use Rattle.rx_value.specs.declared.shapes.Part.{Part}
 use Rattle.rx_value.specs.declared.shapes.Index.{Index}
 use Rattle.rx_value.specs.declared.ranges.Rest.{Rest}
 use Rattle.rx_value.specs.Keys.{key_of, is_before}
-use Rattle.rx_index.specs.Entries.{entry_key, IsOrder, AreOrders, IsEntered, parts_at, ids_at}
+use Rattle.rx_index.specs.Entries.{entry_key, IsOrder, AreOrders, IsEntered, parts_at, ids_at, different_at}
+use Rattle.rx_index.specs.Different.{AreDifferent, AreAllDifferent}
 use Rattle.rx_index.specs.declared.indexed.Indexed.{Indexed}
 use Rattle.rx_index.specs.Steps.{stands_before}
 use Rattle.rx_index.proofs.Counting.{parted}
@@ -110,3 +111,46 @@ pub orders_more : (indexes : List Index) (rows : List (List Value)) (orders afte
 orders_more indexes rows orders after n index ids lt is h o e =
     subst (λ l. AreOrders l rows after) (sym (take_more indexes n index lt ∙ ap (λ i. take n indexes ++ i ∷ []) (sym is)))
     (subst (AreOrders (take n indexes ++ index ∷ []) rows) (sym e) (orders_append (take n indexes) rows orders index ids h o))
+
+-- ---- how many different keys
+
+different_of : (indexes : List Index) (rows : List (List Value)) (different : List (List ℕ)) → AreAllDifferent indexes rows different → (n : ℕ) → n < length indexes → (i : Index) (d : List ℕ)
+    → (n < length different) × AreDifferent (get_or indexes n i).parts rows (get_or different n d)
+different_of [] rows different h n lt i d = absurd (omega (arith, lt))
+different_of (index ∷ indexes) rows [] h n lt i d = absurd h
+different_of (index ∷ indexes) rows (counts ∷ different) h zero lt i d = (omega arith, h.0)
+different_of (index ∷ indexes) rows (counts ∷ different) h (suc n) lt i d =
+    let r = different_of indexes rows different h.1 n (omega (arith, lt)) i d in (omega (arith, r.0), r.1)
+
+different_on : (t : Indexed) (n : ℕ) → IsEntered t → n < length t.schema.indexes → (index : Index) → slice_get t.schema.indexes n ≡ Some index
+    → (n < length t.different) × AreDifferent (parts_at t n) t.rows (different_at t n)
+different_on t n e lt index is =
+    let r = different_of t.schema.indexes t.rows t.different e.different n lt index [] in (
+      r.0,
+      subst (λ (p : List Part). AreDifferent p t.rows (different_at t n)) (ap (λ (i : Index). i.parts) (get_or_from_slice_get t.schema.indexes n index index is) ∙ sym (parts_there t n index is))
+          (subst (λ (l : List ℕ). AreDifferent (get_or t.schema.indexes n index).parts t.rows l) (sym (unwrap_or-slice_get t.different n [])) r.1),
+    )
+
+-- each index has its numbers of different keys
+pub different_there : (t : Indexed) (n : ℕ) → IsEntered t → n < length t.schema.indexes → (n < length t.different) × AreDifferent (parts_at t n) t.rows (different_at t n)
+different_there t n e lt = elim (slice_get_cases t.schema.indexes n).1 [
+  | inl (index, within, is, same) ↦ different_on t n e lt index is
+  | inr (past, none) ↦ absurd (omega (arith, lt, past))
+]
+
+pub different_read : (t : Indexed) (n : ℕ) (counts : List ℕ) → n < length t.different → counts ≡ get_or t.different n counts → counts ≡ different_at t n
+different_read t n counts lt e = e ∙ get_or_default t.different n counts [] lt ∙ sym (unwrap_or-slice_get t.different n [])
+
+different_append : (indexes : List Index) (rows : List (List Value)) (different : List (List ℕ)) (index : Index) (counts : List ℕ) → AreAllDifferent indexes rows different → AreDifferent index.parts rows counts
+    → AreAllDifferent (indexes ++ index ∷ []) rows (different ++ counts ∷ [])
+different_append [] rows [] index counts h o = (o, tt)
+different_append [] rows (other ∷ different) index counts h o = absurd h
+different_append (first ∷ indexes) rows [] index counts h o = absurd h
+different_append (first ∷ indexes) rows (other ∷ different) index counts h o = (h.0, different_append indexes rows different index counts h.1 o)
+
+-- one index more has its numbers
+pub all_different_more : (indexes : List Index) (rows : List (List Value)) (different after : List (List ℕ)) (n : ℕ) (index : Index) (counts : List ℕ) → n < length indexes → index ≡ get_or indexes n index
+    → AreAllDifferent (take n indexes) rows different → AreDifferent index.parts rows counts → after ≡ different ++ counts ∷ [] → AreAllDifferent (take (n + 1) indexes) rows after
+all_different_more indexes rows different after n index counts lt is h o e =
+    subst (λ l. AreAllDifferent l rows after) (sym (take_more indexes n index lt ∙ ap (λ i. take n indexes ++ i ∷ []) (sym is)))
+    (subst (AreAllDifferent (take n indexes ++ index ∷ []) rows) (sym e) (different_append (take n indexes) rows different index counts h o))

@@ -11,6 +11,7 @@ use Rattle.rx_value.specs.declared.shapes.Schema.{Schema}
 use Rattle.rx_value.specs.Limits.{most_rows}
 use Rattle.rx_value.specs.Keys.{key_of, key_cmp}
 use Rattle.rx_index.specs.declared.indexed.Indexed.{Indexed}
+use Rattle.rx_index.specs.Different.{AreAllDifferent}
 
 -- the row with an id, without values where there is none
 abbrev pub row_at : List (List Value) → ℕ → List Value
@@ -50,10 +51,11 @@ abbrev pub IsInIdOrder : List Index → List (List Value) → List (List Value) 
 IsInIdOrder [] file rows = rows ≡ file
 IsInIdOrder (index ∷ others) file rows = IsByPrimary index.primary index.parts file rows
 
--- A table with its entries: few rows, and per index the entries.
+-- A table with its entries: few rows, and per index the entries and how many different keys there are.
 pub record IsEntered (t : Indexed) : Type 0 where
   pub few : length t.rows ≤ most_rows
   pub orders : AreOrders t.schema.indexes t.rows t.orders
+  pub different : AreAllDifferent t.schema.indexes t.rows t.different
 
 -- the parts of an index by number
 abbrev pub parts_at : Indexed → ℕ → List Part
@@ -62,6 +64,10 @@ parts_at t n = elim (slice_get t.schema.indexes n) [ Some index ↦ index.parts 
 -- the entries of an index by number
 abbrev pub ids_at : Indexed → ℕ → List ℕ
 ids_at t n = unwrap_or (slice_get t.orders n) []
+
+-- how many different keys an index by number has on its first part, on its first two, and so on
+abbrev pub different_at : Indexed → ℕ → List ℕ
+different_at t n = unwrap_or (slice_get t.different n) []
 
 -- What is made of a schema and the rows of a file.
 pub record IsIndexed (schema : Schema) (file : List (List Value)) (t : Indexed) : Type 0 where

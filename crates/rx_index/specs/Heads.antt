@@ -62,6 +62,15 @@ abbrev pub IsHead : ℕ → List Field → List Value → ℕ → Type 0
 IsHead before [] row n = n ≡ before
 IsHead before (field ∷ fields) row n = (d : ℕ) × IsDigit field row d × IsHead (before * (count_of field.shape + 1) + d) fields row n
 
+-- how many numbers the first parts of keys have
+abbrev pub sizes : List Field → ℕ
+sizes [] = 1
+sizes (field ∷ fields) = (count_of field.shape + 1) * sizes fields
+
+-- the numbers of what a row has on these parts, behind a number, are a number of 128 bits
+abbrev pub HasSpace : ℕ → List Field → Type 0
+HasSpace before fields = (before + 1) * sizes fields < 2 ^ 128
+
 -- different values have different numbers
 abbrev pub IsExact : Shape → Type 0
 IsExact (Whole least count) = Unit {0}

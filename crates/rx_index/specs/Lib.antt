@@ -1,5 +1,7 @@
 pub mod Entries
 pub mod Duplicates
+pub mod Different
+pub mod Marks
 pub mod Heads
 pub mod Placed
 pub mod Soonest

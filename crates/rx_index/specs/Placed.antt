@@ -1,13 +1,16 @@
 -- Rows with the two words that their keys begin with.
-use Rattle.std.specs.Prelude.{◌≡◌, ℕ, ◌+◌, ◌≤◌, ◌⊎◌, Bool, true, List, [], ◌++◌, length, map, drop, All}
+use Rattle.std.specs.Prelude.{◌≡◌, ℕ, ◌+◌, ◌≤◌, ◌<◌, ◌⊎◌, Bool, true, List, [], ◌++◌, length, map, drop, All}
 use Rattle.std.specs.declared.cmp.Ordering.{Ordering}
+use Rattle.std.specs.declared.cmp.Ordering.TheVariants.{Equal}
+use Rattle.std.proofs.Common.{get_or}
 use Rattle.std.specs.Ordering.{ordering_then, nat_cmp}
 use Rattle.std.specs.List.{range_with_len}
 use Rattle.rx_value.specs.declared.values.Value.{Value}
 use Rattle.rx_value.specs.declared.shapes.Part.{Part}
 use Rattle.rx_index.specs.declared.heads.Field.{Field}
 use Rattle.rx_index.specs.declared.orders.Placed.{Placed}
-use Rattle.rx_index.specs.Entries.{row_at, IsOrder}
+use Rattle.rx_value.specs.Keys.{key_cmp}
+use Rattle.rx_index.specs.Entries.{row_at, entry_key, IsOrder}
 use Rattle.rx_index.specs.Heads.{IsHead, IsFields, AreExact}
 use Rattle.rx_index.specs.Steps.{cmp_with}
 
@@ -61,6 +64,12 @@ pub record IsOrdered (parts : List Part) (rows : List (List Value)) (list : List
   pub whole : Bool
   pub words : IsWords parts first second whole
   pub placed : All (IsPlaced first second rows) list
+
+-- rows with the same words have equal keys
+abbrev pub TellApart : List Part → List (List Value) → List Placed → Type 0
+TellApart parts rows list =
+    (i j : ℕ) → (d : Placed) → i < length list → j < length list → (get_or list i d).head ≡ (get_or list j d).head → (get_or list i d).next ≡ (get_or list j d).next
+    → key_cmp parts (entry_key parts rows (get_or list i d).id) (entry_key parts rows (get_or list j d).id) ≡ Equal
 
 -- fields of these parts were added
 pub record AddsFields (parts : List Part) (old new : List Field) : Type 0 where

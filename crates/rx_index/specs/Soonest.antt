@@ -3,7 +3,16 @@ use Rattle.std.specs.Prelude.{ℕ, ◌<◌, ◌≤◌, true, false, List, Option
 use Rattle.rx_value.specs.declared.values.Value.{Value}
 use Rattle.rx_value.specs.declared.shapes.Index.{Index}
 use Rattle.rx_index.specs.declared.duplicates.Duplicate.{Duplicate}
-use Rattle.rx_index.specs.Duplicates.{Breaks}
+use Rattle.rx_index.specs.declared.duplicates.Entered.{Entered}
+use Rattle.rx_index.specs.Entries.{IsOrder}
+use Rattle.rx_index.specs.Different.{AreDifferent}
+use Rattle.rx_index.specs.Duplicates.{IsFirst, Breaks, RepeatsUnique}
+
+-- what is entered on one index: its entries, the first row that repeats a key where it is unique, and how many different keys there are
+pub record IsEnteredOn (index : Index) (rows : List (List Value)) (e : Entered) : Type 0 where
+  pub order : IsOrder index.parts rows e.ids
+  pub repeat : IsFirst (RepeatsUnique index rows) e.repeat
+  pub different : AreDifferent index.parts rows e.different
 
 -- the first row that repeats a key of one of the first n indexes, and the first such index for it; or none
 abbrev pub IsSoonest : List Index → List (List Value) → ℕ → Option Duplicate → Type 0

@@ -76,6 +76,7 @@ fn indexed(alloc: Global, schema: Schema, rows: RowList) -> Result<Indexed, Allo
         schema,
         rows,
         orders: entries.orders,
+        different: entries.different,
     })
 }
 
@@ -104,6 +105,7 @@ pub fn build(alloc: Global, schema: Schema, rows: RowList) -> Result<Indexed, In
             schema,
             rows,
             orders: entries.orders,
+        different: entries.different,
         });
     }
     match indexed(alloc, schema, rows) {

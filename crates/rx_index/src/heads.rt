@@ -1,6 +1,6 @@
-ghost use Rattle.std.specs.Prelude.{◌≡◌, ◌+◌, ◌<◌, ◌≤◌, length, IfSome};
+ghost use Rattle.std.specs.Prelude.{◌≡◌, ◌+◌, ◌<◌, ◌≤◌, true, length, IfSome};
 ghost use Rattle.rx_value.specs.Parts.{borrowed};
-ghost use Rattle.rx_index.specs.Heads.{HasRoom, IsFront, IsShort, IsWhole, IsShaped, IsDigit, IsHead, count_of};
+ghost use Rattle.rx_index.specs.Heads.{HasRoom, HasSpace, IsFront, IsShort, IsWhole, IsShaped, IsDigit, IsHead, count_of, sizes};
 
 use rx_value::{Part, PartValue, Row};
 
@@ -138,14 +138,35 @@ fn digit(field: &Field, row: &Row) -> Option<u128>
     }
 }
 
-/// The first parts of a row's key as one number behind another, none where it is too large or a value isn't numbered.
+// How many numbers the first parts of keys have, none where they are too many.
+fn sizes(fields: &[Field]) -> Option<u128>
+    ensures { IfSome result (λ n. n ≡ sizes fields.now) }
+{
+    match fields {
+        [] => Some(1),
+        [field, fields @ ..] => {
+            let size = count_of(field.shape).checked_add(1)?;
+            size.checked_mul(sizes(fields)?)
+        }
+    }
+}
+
+/// Whether a word has room for the numbers of what rows have on these parts.
+pub(crate) fn has_space(fields: &[Field]) -> bool
+    ensures { result ≡ true → HasSpace 0 fields.now }
+{
+    sizes(fields).is_some()
+}
+
+/// The first parts of a row's key as one number behind another, none where a value isn't numbered.
 pub(crate) fn head(before: u128, fields: &[Field], row: &Row) -> Option<u128>
+    requires space { HasSpace before fields.now }
     ensures { IfSome result (λ n. IsHead before fields.now row.now n) }
 {
     let Some((field, fields)) = fields.split_first() else {
         return Some(before);
     };
-    let size = count_of(field.shape).checked_add(1)?;
-    let next = before.checked_mul(size)?.checked_add(digit(field, row)?)?;
-    head(next, fields, row)
+    let number = digit(field, row)?;
+    let size = count_of(field.shape) + 1;
+    head(before * size + number, fields, row)
 }

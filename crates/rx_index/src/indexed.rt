@@ -1,5 +1,6 @@
 ghost use Rattle.std.specs.Prelude.{◌≡◌, ◌<◌, length};
-ghost use Rattle.rx_index.specs.Entries.{IsEntered, IsOrder, parts_at, ids_at};
+ghost use Rattle.rx_index.specs.Entries.{IsEntered, IsOrder, parts_at, ids_at, different_at};
+ghost use Rattle.rx_index.specs.Different.{AreDifferent};
 
 use rx_value::{OrderLists, Part, RowList, Schema};
 
@@ -11,6 +12,8 @@ pub struct Indexed {
     /// By primary key, or as in the file where there is none.
     pub rows: RowList,
     pub orders: OrderLists,
+    /// Per index how many different keys its entries have on its first part, on its first two, and so on.
+    pub different: OrderLists,
 }
 
 impl Indexed {
@@ -32,5 +35,15 @@ impl Indexed {
         ensures order { IsOrder (parts_at self.now index) self.now.rows result.now }
     {
         self.orders.as_slice()[index as usize].as_slice()
+    }
+
+    /// How many different keys an index by its number has on its first part, on its first two, and so on.
+    pub fn different(&self, index: u32) -> &[u32]
+        requires entered { IsEntered self.now }
+        requires there { index < length self.now.schema.indexes }
+        ensures value { result.now ≡ different_at self.now index }
+        ensures different { AreDifferent (parts_at self.now index) self.now.rows result.now }
+    {
+        self.different.as_slice()[index as usize].as_slice()
     }
 }

@@ -3,10 +3,12 @@
 
 mod bounds;
 mod building;
+mod different;
 mod duplicates;
 mod faults;
 mod fields;
 mod heads;
+mod in_place;
 mod indexed;
 mod orders;
 mod repeats;

@@ -1,11 +1,13 @@
-ghost use Rattle.std.specs.Prelude.{◌≡◌, ◌≤◌, true, false, [], length, IfOk, IfSome};
+ghost use Rattle.std.specs.Prelude.{◌≡◌, ◌≤◌, ◌↔◌, IsTrue, true, false, [], length, IfOk, IfSome};
+ghost use Rattle.std.specs.List.{range_with_len};
 ghost use Rattle.rx_value.specs.Limits.{most_rows};
 ghost use Rattle.rx_index.specs.Steps.{row_or, cmp_with};
-ghost use Rattle.rx_index.specs.Placed.{placed_cmp, words_cmp, ids_in, IsPlacedAs, ArePlaced, IsNumbered, IsOrdered};
-ghost use Rattle.rx_index.specs.Heads.{IsHead};
+ghost use Rattle.rx_index.specs.Placed.{placed_cmp, words_cmp, ids_in, IsPlacedAs, ArePlaced, IsNumbered, IsOrdered, TellApart};
+ghost use Rattle.rx_index.specs.Heads.{IsHead, HasSpace};
+ghost use Rattle.rx_index.specs.Marks.{same_words};
 
 use crate::fields::{Texts, Words, words_of};
-use crate::heads::head;
+use crate::heads::{has_space, head};
 use rx_value::{Column, NumberList, Part, Row, compare_keys};
 use std::alloc::{AllocError, Global};
 use std::cmp::Ordering;
@@ -38,11 +40,11 @@ pub(crate) struct Placed {
     pub id: u32,
 }
 
-// Rows with their words, and whether keys with the same words are equal.
+/// Rows with their words, and whether keys with the same words are equal.
 #[derive(Drop)]
-struct Numbered {
-    list: Vec<Placed>,
-    whole: bool,
+pub(crate) struct Numbered {
+    pub list: Vec<Placed>,
+    pub whole: bool,
 }
 
 // By the words first, so that few keys are looked up.
@@ -64,13 +66,24 @@ fn compare_words(a: &Placed, b: &Placed) -> Ordering
     }
 }
 
+/// Whether rows have the same words.
+pub(crate) fn has_same_words(a: &Placed, b: &Placed) -> bool
+    ensures value { result ≡ same_words a.now b.now }
+    ensures same { IsTrue result ↔ ((a.now.head ≡ b.now.head) × (a.now.next ≡ b.now.next)) }
+{
+    a.head == b.head && a.next == b.next
+}
+
 fn second_word(words: &Words, row: &Row) -> Option<u128>
+    requires { HasSpace 0 words.now.second.items }
     ensures { IfSome result (λ n. IsHead 0 words.now.second.items row.now n) }
 {
     head(0, words.second.as_slice(), row)
 }
 
 fn place_of(words: &Words, row: &Row, id: u32) -> Option<Placed>
+    requires first { HasSpace 0 words.now.first.items }
+    requires second { HasSpace 0 words.now.second.items }
     ensures { IfSome result (λ p. IsPlacedAs words.now.first.items words.now.second.items row.now id p) }
 {
     let head = head(0, words.first.as_slice(), row)?;
@@ -78,11 +91,22 @@ fn place_of(words: &Words, row: &Row, id: u32) -> Option<Placed>
     Some(Placed { head, next, id })
 }
 
+// Whether both words have room for their fields.
+fn have_space(words: &Words) -> bool
+    ensures first { result ≡ true → HasSpace 0 words.now.first.items }
+    ensures second { result ≡ true → HasSpace 0 words.now.second.items }
+{
+    has_space(words.first.as_slice()) && has_space(words.second.as_slice())
+}
+
 // The rows with their words, none where a key has none.
 fn placed_by(alloc: Global, words: &Words, rows: &[Row]) -> Result<Option<Vec<Placed>>, AllocError>
     requires { length rows.now ≤ most_rows }
     ensures { IfOk result (λ o. IfSome o (λ list. ArePlaced words.now.first.items words.now.second.items rows.now (length rows.now) list.items)) }
 {
+    if !have_space(words) {
+        return Ok(None);
+    }
     let mut list = Vec::with_capacity(alloc, rows.len())?;
     for id in 0..rows.len() {
         let Some(place) = place_of(words, &rows[id], id as u32) else {
@@ -166,7 +190,8 @@ fn by_entries(
 
 fn by_words(parts: &[Part], rows: &[Row], list: Vec<Placed>) -> Result<Vec<Placed>, AllocError>
     requires { IsNumbered parts.now rows.now list.items true }
-    ensures { IfOk result (λ sorted. IsOrdered parts.now rows.now sorted.items) }
+    ensures ordered { IfOk result (λ sorted. IsOrdered parts.now rows.now sorted.items) }
+    ensures whole { IfOk result (λ sorted. TellApart parts.now rows.now sorted.items) }
 {
     let mut sorted = list;
     sorted.sort_by(|a, b| compare_words(a, b))?;
@@ -181,13 +206,26 @@ fn sorted(
     numbered: Numbered,
 ) -> Result<Vec<Placed>, AllocError>
     requires { IsNumbered parts.now rows.now numbered.list.items numbered.whole }
-    ensures { IfOk result (λ sorted. IsOrdered parts.now rows.now sorted.items) }
+    ensures ordered { IfOk result (λ sorted. IsOrdered parts.now rows.now sorted.items) }
+    ensures whole { IfOk result (λ sorted. numbered.whole ≡ true → TellApart parts.now rows.now sorted.items) }
 {
     if numbered.whole {
         by_words(parts, rows, numbered.list)
     } else {
         by_entries(alloc, parts, rows, numbered.list)
     }
+}
+
+/// All ids of so many rows, rising. The error is want of memory.
+pub(crate) fn all_ids(alloc: Global, count: usize) -> Result<NumberList, AllocError>
+    requires { count ≤ most_rows }
+    ensures { IfOk result (λ ids. ids ≡ range_with_len 0 count) }
+{
+    let mut ids = NumberList::with_capacity(alloc, count)?;
+    for id in 0..count {
+        ids.push(id as u32)?;
+    }
+    Ok(ids)
 }
 
 /// The ids of a list in its order. The error is want of memory.
@@ -208,11 +246,13 @@ pub(crate) fn in_order(
     parts: &[Part],
     columns: &[Column],
     rows: &[Row],
-) -> Result<Vec<Placed>, AllocError>
+) -> Result<Numbered, AllocError>
     requires { length rows.now ≤ most_rows }
-    ensures { IfOk result (λ list. IsOrdered parts.now rows.now list.items) }
+    ensures ordered { IfOk result (λ n. IsOrdered parts.now rows.now n.list.items) }
+    ensures whole { IfOk result (λ n. n.whole ≡ true → TellApart parts.now rows.now n.list.items) }
 {
     let numbered = with_words(alloc, parts, columns, rows)?;
+    let whole = numbered.whole;
     let list = sorted(alloc, parts, rows, numbered)?;
-    Ok(list)
+    Ok(Numbered { list, whole })
 }

@@ -1,4 +1,4 @@
-ghost use Rattle.std.specs.Prelude.{◌≡◌, ◌-◌, ◌<◌, ◌≤◌, ◌↔◌, IsTrue, get_or, length};
+ghost use Rattle.std.specs.Prelude.{◌≡◌, ◌-◌, ◌<◌, ◌≤◌, get_or, length};
 ghost use Rattle.std.specs.List.{list_any};
 ghost use Rattle.rx_value.specs.Keys.{key_of};
 ghost use Rattle.rx_value.specs.Parts.{borrowed};
@@ -6,7 +6,7 @@ ghost use Rattle.rx_index.specs.Placed.{IsOrdered, ids_in};
 ghost use Rattle.rx_index.specs.Duplicates.{is_null, Repeats, IsFirst};
 ghost use Rattle.rx_index.specs.Steps.{pairs_up, least_of};
 
-use crate::orders::Placed;
+use crate::orders::{Placed, has_same_words};
 use rx_value::{Part, PartValue, Row, compare_keys};
 use std::cmp::Ordering;
 
@@ -36,12 +36,6 @@ fn has_same_key(parts: &[Part], rows: &[Row], a: u32, b: u32) -> bool
         Ordering::Equal => !has_null(parts, second),
         _ => false,
     }
-}
-
-fn has_same_words(a: &Placed, b: &Placed) -> bool
-    ensures { IsTrue result ↔ ((a.now.head ≡ b.now.head) × (a.now.next ≡ b.now.next)) }
-{
-    a.head == b.head && a.next == b.next
 }
 
 // Whether the entry at a place has the key of the one before, without NULL; keys are looked up where the words are the same.

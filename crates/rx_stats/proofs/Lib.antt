@@ -1,4 +1,2 @@
 pub mod Adding
-pub mod Counting
-pub mod Seeing
 pub mod Suiting

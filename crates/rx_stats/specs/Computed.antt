@@ -1,24 +1,11 @@
 -- Records per key: how many rows there are for each different key of the first parts of an index.
-use Rattle.std.specs.Prelude.{◌≡◌, ℕ, zero, suc, ◌+◌, ◌<◌, ◌/◌, max, List, [], ◌∷◌, length, map, take, All}
-use Rattle.std.specs.List.{AllPairs, Contains}
+use Rattle.std.specs.Prelude.{◌≡◌, ℕ, zero, suc, ◌+◌, ◌<◌, ◌/◌, max, List, [], ◌∷◌, length}
 use Rattle.std.proofs.Common.{get_or}
 use Rattle.rx_value.specs.declared.values.Value.{Value}
 use Rattle.rx_value.specs.declared.shapes.Part.{Part}
 use Rattle.rx_value.specs.declared.shapes.Index.{Index}
-use Rattle.rx_value.specs.Keys.{key_of}
 use Rattle.rx_index.specs.declared.indexed.Indexed.{Indexed}
-
--- So many different keys are among these: as many as a list has that has each of them once and no other.
-pub record HasDifferent (keys : List (List Value)) (count : ℕ) : Type 0 where
-  pub each : List (List Value)
-  pub apart : AllPairs (λ a b. a ≡ b → ⊥) each
-  pub of_keys : All (Contains keys) each
-  pub all : All (Contains each) keys
-  pub count_is : length each ≡ count
-
--- the keys of rows on the first parts of an index
-abbrev pub fronts : List Part → ℕ → List (List Value) → List (List Value)
-fronts parts n rows = map (λ row. key_of (take n parts) row) rows
+use Rattle.rx_index.specs.Different.{HasDifferent, fronts}
 
 -- so many rows for each of so many different keys, without rest; at least 1
 abbrev pub per_key : ℕ → ℕ → ℕ

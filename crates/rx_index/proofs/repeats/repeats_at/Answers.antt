@@ -32,5 +32,5 @@ returns-else-has_same_words c =
     ∙ sym (words_apart parts rows list o a b
     (All-get_or (IsPlaced o.first o.second rows) list (c.args.place - 1) none (omega (arith, c.requires.within)) o.placed)
     (All-get_or (IsPlaced o.first o.second rows) list c.args.place none c.requires.within o.placed)
-    (λ h. absurd (cc (c.if-has_same_words.false, c.has_same_words.ensures.1 h))))
+    (λ h. absurd (cc (c.if-has_same_words.false, c.has_same_words.ensures.same.1 h))))
     ∙ ap₂ (λ m n. pairs_up parts rows m n) (sym (id_same list (c.args.place - 1))) (sym (id_same list c.args.place))

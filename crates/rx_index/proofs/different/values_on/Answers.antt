@@ -2,8 +2,8 @@ use Rattle.std.proofs.Common.{◌∷◌, [], map, get_or, ap, ◌∙◌}
 use Rattle.std.proofs.lemmas.List.{map-append}
 use Rattle.rx_value.specs.Parts.{borrowed}
 use Rattle.rx_value.specs.Keys.{part_value}
-use Rattle.rx_stats.proofs.Counting.{row_there, values_more}
-use Rattle.rx_stats.proofs.computing.values_on.Goals as goal
+use Rattle.rx_index.proofs.Marking.{row_there, values_more}
+use Rattle.rx_index.proofs.different.values_on.Goals as goal
 
 pub loop-id-preserved : goal.loop-id-preserved
 loop-id-preserved c =

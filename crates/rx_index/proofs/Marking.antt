@@ -11,9 +11,9 @@ use Rattle.rx_value.specs.declared.shapes.Part.{Part}
 use Rattle.rx_value.specs.Keys.{part_value, part_cmp}
 use Rattle.rx_value.proofs.KeyOrder.{by_key}
 use Rattle.rx_index.specs.Entries.{row_at, IsOrder}
-use Rattle.rx_stats.specs.Computed.{HasDifferent, fronts}
-use Rattle.rx_stats.specs.Steps.{is_new, values_of, count_marked, differs, AreSeen, IsFirstMarked, AreMarkedTo, AreMarked, AreDifferentTo}
-use Rattle.rx_stats.proofs.Seeing.{none_yet, new_taken, old_passed, ended}
+use Rattle.rx_index.specs.Different.{HasDifferent, fronts, AreDifferentTo}
+use Rattle.rx_index.specs.Marks.{is_new, values_of, count_marked, differs, AreSeen, IsFirstMarked, AreMarkedTo, AreMarked}
+use Rattle.rx_index.proofs.Seeing.{none_yet, new_taken, old_passed, ended}
 
 -- one more where a test is passed
 abbrev counted : Bool → ℕ → ℕ
@@ -223,7 +223,7 @@ module _ (parts : List Part) (rows : List (List Value)) (ids : List ℕ) (o : Is
       (λ i within. let next : place + suc i ≡ place + 1 + i = omega arith in each (suc i) (omega (arith, within)) ∙ ap (is_new (take n parts) rows ids) next)
       (one_more n place count m told lt s))
 
-  all_counted : (n : ℕ) (marks : List Bool) → AreMarked parts n rows ids marks → HasDifferent (fronts parts n rows) (count_marked marks)
+  pub all_counted : (n : ℕ) (marks : List Bool) → AreMarked parts n rows ids marks → HasDifferent (fronts parts n rows) (count_marked marks)
   all_counted n marks m =
       let zero_more : 0 + count_marked marks ≡ count_marked marks = omega arith in
       subst (HasDifferent (fronts parts n rows)) zero_more
@@ -232,17 +232,23 @@ module _ (parts : List Part) (rows : List (List Value)) (ids : List ℕ) (o : Is
       (λ i within. let same : 0 + i ≡ i = omega arith in m.each i (omega (arith, within, m.as_many)) ∙ ap (is_new (take n parts) rows ids) (sym same))
       (omega arith, none_yet parts n rows ids o)))
 
-  -- the numbers of one part more
-  pub different_more : (n count : ℕ) (marks : List Bool) (old new : List ℕ) → AreMarked parts (n + 1) rows ids marks → count ≡ count_marked marks → AreDifferentTo parts rows n old → new ≡ old ++ count ∷ []
-      → AreDifferentTo parts rows (n + 1) new
-  different_more n count marks old new m is d e = subst (AreDifferentTo parts rows (n + 1)) (sym e) (record {
-    as_many = omega (arith, longer count old, d.as_many);
-    each = λ i lt. elim (is_here i n) [
-      | inl at ↦ subst (λ k. HasDifferent (fronts parts (k + 1) rows) (get_or (old ++ count ∷ []) k 0)) (sym at)
-          (subst (HasDifferent (fronts parts (n + 1) rows)) (sym is ∙ sym (at_end n count old d.as_many)) (all_counted (n + 1) marks m))
-      | inr h ↦ subst (HasDifferent (fronts parts (i + 1) rows)) (sym (before_end i count old (omega (arith, lt, d.as_many, other i n lt h)))) (d.each i (other i n lt h))
-    ];
-  })
+-- the number of one part more
+pub different_last : (parts : List Part) (rows : List (List Value)) (n count : ℕ) (old new : List ℕ) → HasDifferent (fronts parts (n + 1) rows) count → AreDifferentTo parts rows n old
+    → new ≡ old ++ count ∷ [] → AreDifferentTo parts rows (n + 1) new
+different_last parts rows n count old new h d e = subst (AreDifferentTo parts rows (n + 1)) (sym e) (record {
+  as_many = omega (arith, longer count old, d.as_many);
+  each = λ i lt. elim (is_here i n) [
+    | inl at ↦ subst (λ k. HasDifferent (fronts parts (k + 1) rows) (get_or (old ++ count ∷ []) k 0)) (sym at)
+        (subst (HasDifferent (fronts parts (n + 1) rows)) (sym (at_end n count old d.as_many)) h)
+    | inr h ↦ subst (HasDifferent (fronts parts (i + 1) rows)) (sym (before_end i count old (omega (arith, lt, d.as_many, other i n lt h)))) (d.each i (other i n lt h))
+  ];
+})
+
+-- the same by marks
+pub different_more : (parts : List Part) (rows : List (List Value)) (ids : List ℕ) → IsOrder parts rows ids → (n count : ℕ) (marks : List Bool) (old new : List ℕ) → AreMarked parts (n + 1) rows ids marks
+    → count ≡ count_marked marks → AreDifferentTo parts rows n old → new ≡ old ++ count ∷ [] → AreDifferentTo parts rows (n + 1) new
+different_more parts rows ids o n count marks old new m is d e =
+    different_last parts rows n count old new (subst (HasDifferent (fronts parts (n + 1) rows)) (sym is) (all_counted parts rows ids o (n + 1) marks m)) d e
 
 -- a list that is written over as a whole
 pub written_over : {X : Type 0} (n : ℕ) (old new : List X) → n ≡ length old → length new ≡ length old → take n (new ++ drop (length new) old) ≡ new

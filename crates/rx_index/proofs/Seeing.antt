@@ -17,8 +17,8 @@ use Rattle.rx_index.specs.Entries.{row_at, entry_key, IsOrder}
 use Rattle.rx_index.proofs.Counting.{rises}
 use Rattle.rx_index.proofs.Numbers.{id_below}
 use Rattle.rx_index.proofs.Repeating.{key_equal}
-use Rattle.rx_stats.specs.Computed.{HasDifferent, fronts}
-use Rattle.rx_stats.specs.Steps.{front_at, is_new, AreSeen}
+use Rattle.rx_index.specs.Different.{HasDifferent, fronts}
+use Rattle.rx_index.specs.Marks.{front_at, is_new, AreSeen}
 
 -- ---- keys on the first parts
 

@@ -1,7 +1,7 @@
 use Rattle.std.proofs.Common.{◌≡◌, map, take}
 use Rattle.rx_value.specs.Parts.{borrowed}
-use Rattle.rx_stats.specs.Steps.{values_of}
-use Rattle.rx_stats.proofs.computing.values_on.Given as goal
+use Rattle.rx_index.specs.Marks.{values_of}
+use Rattle.rx_index.proofs.different.values_on.Given as goal
 
 -- the values of the entries so far
 abbrev pub invariant-loop-id : goal.invariant-loop-id

@@ -5,10 +5,10 @@ use Rattle.rx_value.specs.declared.values.Value.TheVariants.{Null}
 use Rattle.rx_value.specs.declared.keys.PartValue.TheVariants.{Null as none}
 use Rattle.rx_value.specs.Keys.{part_cmp}
 use Rattle.rx_value.specs.Parts.{borrowed}
-use Rattle.rx_stats.specs.Steps.{AreMarkedTo}
-use Rattle.rx_stats.proofs.Counting.{left_unmarked, made_marked}
-use Rattle.rx_stats.proofs.computing.mark.Goals as goal
-use Rattle.rx_stats.proofs.computing.mark.Goals.{then-not-is_same, else-not-is_same}
+use Rattle.rx_index.specs.Marks.{AreMarkedTo}
+use Rattle.rx_index.proofs.Marking.{left_unmarked, made_marked}
+use Rattle.rx_index.proofs.different.mark.Goals as goal
+use Rattle.rx_index.proofs.different.mark.Goals.{then-not-is_same, else-not-is_same}
 
 pub loop-place-preserved : goal.loop-place-preserved
 loop-place-preserved c =

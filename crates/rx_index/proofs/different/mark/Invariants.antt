@@ -1,7 +1,7 @@
 use Rattle.std.proofs.Common.{map}
 use Rattle.rx_value.specs.Parts.{borrowed}
-use Rattle.rx_stats.specs.Steps.{AreMarkedTo}
-use Rattle.rx_stats.proofs.computing.mark.Given as goal
+use Rattle.rx_index.specs.Marks.{AreMarkedTo}
+use Rattle.rx_index.proofs.different.mark.Given as goal
 
 -- the places before this one are marked
 abbrev pub invariant-loop-place : goal.invariant-loop-place
