@@ -7,6 +7,7 @@ pub mod Marking
 pub mod NewWords
 pub mod Numbering
 pub mod Numbers
+pub mod Packing
 pub mod Repeating
 pub mod Rising
 pub mod Risen

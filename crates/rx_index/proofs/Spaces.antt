@@ -10,7 +10,7 @@ sizes_some (field ∷ fields) = product_some (count_of field.shape) (sizes field
   product_some : (c n : ℕ) → 1 ≤ n → 1 ≤ (c + 1) * n
   product_some c n h = grind (arith, h)
 
-digit_within : (field : Field) (row : List Value) (d : ℕ) → IsDigit field row d → d ≤ count_of field.shape
+pub digit_within : (field : Field) (row : List Value) (d : ℕ) → IsDigit field row d → d ≤ count_of field.shape
 digit_within field row d is = by field.part.descending (sym is.digit_is) where
   by : (falling : Bool) → turned falling (count_of field.shape) is.number ≡ d → d ≤ count_of field.shape
   by true e = omega (arith, e)
@@ -20,7 +20,7 @@ at_least : (a n : ℕ) → 1 ≤ n → a ≤ a * n
 at_least a n h = grind (arith, h)
 
 -- (before + 1) * (size * n) is at least ((before * size + d) + 1) * n where d is below size
-step : (before c d n : ℕ) → d ≤ c → (before * (c + 1) + d + 1) * n ≤ (before + 1) * ((c + 1) * n)
+pub step : (before c d n : ℕ) → d ≤ c → (before * (c + 1) + d + 1) * n ≤ (before + 1) * ((c + 1) * n)
 step before c d n h = grind (arith, h)
 
 pub space_on : (before : ℕ) (field : Field) (fields : List Field) (row : List Value) (d : ℕ) → IsDigit field row d → HasSpace before (field ∷ fields) → HasSpace (before * (count_of field.shape + 1) + d) fields

@@ -4,6 +4,7 @@ pub mod Different
 pub mod Marks
 pub mod Heads
 pub mod Placed
+pub mod Packed
 pub mod Soonest
 pub mod Bounds
 pub mod Steps

@@ -7,9 +7,10 @@ use crate::heads::{Field, Shape};
 use rx_value::{ColType, Column, Part};
 use std::alloc::{AllocError, Global};
 
-/// How texts are numbered: whole ones of few bytes, or by their first bytes.
+/// How texts are numbered: whole ones of very few bytes or of few, or by their first bytes.
 #[derive(Clone, Copy)]
 pub(crate) enum Texts {
+    Brief,
     Whole,
     Front,
 }
@@ -30,9 +31,8 @@ fn whole(bits: u32, signed: bool) -> Option<Shape> {
     Some(Shape::Whole { least, count })
 }
 
-// Texts of at most fifteen bytes, where there is room for them.
-fn short(room: u128) -> Option<Shape> {
-    let bytes = 15;
+// Texts of at most so many bytes, where there is room for them.
+fn short(bytes: u32, room: u128) -> Option<Shape> {
     let count = 257u128.checked_pow(bytes)?;
     if room > count {
         Some(Shape::Short { bytes, count })
@@ -52,7 +52,8 @@ fn front(room: u128) -> Option<Shape> {
 fn shape_of(kind: ColType, texts: Texts, room: u128) -> Option<Shape> {
     match (kind, texts) {
         (ColType::Whole { bits, signed }, _) => whole(bits, signed),
-        (ColType::VarChar { chars: _ }, Texts::Whole) => short(room).or(front(room)),
+        (ColType::VarChar { chars: _ }, Texts::Brief) => short(11, room),
+        (ColType::VarChar { chars: _ }, Texts::Whole) => short(15, room).or(front(room)),
         (ColType::VarChar { chars: _ }, Texts::Front) => front(room),
     }
 }

@@ -1,4 +1,4 @@
-ghost use Rattle.std.specs.Prelude.{◌≡◌, ◌+◌, ◌<◌, ◌≤◌, true, length, IfSome};
+ghost use Rattle.std.specs.Prelude.{◌≡◌, ◌+◌, ◌<◌, ◌≤◌, ◌^◌, true, length, IfSome};
 ghost use Rattle.rx_value.specs.Parts.{borrowed};
 ghost use Rattle.rx_index.specs.Heads.{HasRoom, HasSpace, IsFront, IsShort, IsWhole, IsShaped, IsDigit, IsHead, count_of, sizes};
 
@@ -156,6 +156,16 @@ pub(crate) fn has_space(fields: &[Field]) -> bool
     ensures { result ≡ true → HasSpace 0 fields.now }
 {
     sizes(fields).is_some()
+}
+
+/// Whether there are few enough numbers for a word of 96 bits.
+pub(crate) fn is_brief(fields: &[Field]) -> bool
+    ensures { result ≡ true → sizes fields.now ≤ 2 ^ 96 }
+{
+    match sizes(fields) {
+        Some(size) => size <= 79_228_162_514_264_337_593_543_950_336,
+        None => false,
+    }
 }
 
 /// The first parts of a row's key as one number behind another, none where a value isn't numbered.

@@ -11,6 +11,7 @@ mod heads;
 mod in_place;
 mod indexed;
 mod orders;
+mod packed;
 mod repeats;
 mod seeking;
 

@@ -8,6 +8,7 @@ ghost use Rattle.rx_index.specs.Marks.{same_words};
 
 use crate::fields::{Texts, Words, words_of};
 use crate::heads::{has_space, head};
+use crate::packed::in_packed_order;
 use rx_value::{Column, NumberList, Part, Row, compare_keys};
 use std::alloc::{AllocError, Global};
 use std::cmp::Ordering;
@@ -251,6 +252,9 @@ pub(crate) fn in_order(
     ensures ordered { IfOk result (λ n. IsOrdered parts.now rows.now n.list.items) }
     ensures whole { IfOk result (λ n. n.whole ≡ true → TellApart parts.now rows.now n.list.items) }
 {
+    if let Some(list) = in_packed_order(alloc, parts, columns, rows)? {
+        return Ok(Numbered { list, whole: true });
+    }
     let numbered = with_words(alloc, parts, columns, rows)?;
     let whole = numbered.whole;
     let list = sorted(alloc, parts, rows, numbered)?;
