@@ -1,11 +1,10 @@
 -- Rows with one short word are sorted as single numbers.
-use Rattle.std.proofs.Common.{◌≡◌, ◌⊎◌, inl, inr, ℕ, zero, suc, ◌+◌, ◌*◌, ◌/◌, ◌%◌, ◌<◌, ◌≤◌, ◌^◌, Bool, true, false, List, [], ◌∷◌, ◌++◌, length, map, get_or, All, refl, sym, ap, ap₂, ◌∙◌, subst, arith}
-use Rattle.std.specs.declared.cmp.Ordering.{Ordering}
-use Rattle.std.specs.declared.cmp.Ordering.TheVariants.{Less, Equal, Greater}
+use Rattle.std.proofs.Common.{◌≡◌, ◌⊎◌, inl, inr, ℕ, zero, suc, ◌+◌, ◌*◌, ◌/◌, ◌%◌, ◌<◌, ◌≤◌, ◌^◌, true, false, List, [], ◌∷◌, ◌++◌, length, map, get_or, refl, sym, ap, ap₂, ◌∙◌, subst, arith}
+use Rattle.std.specs.declared.cmp.Ordering.TheVariants.{Greater}
 use Rattle.std.specs.Ordering.{ordering_then, is_lt, nat_cmp}
 use Rattle.std.specs.List.Sorted.{IsPermutation, IsSorted, IsSortedBy}
-use Rattle.std.proofs.lemmas.List.{map-append, get_or-map, length-map, take_more}
-use Rattle.std.proofs.lemmas.List.Elements.{All-push, All-get_or}
+use Rattle.std.proofs.lemmas.List.{map-append, get_or-map, length-map}
+use Rattle.std.proofs.lemmas.List.Elements.{All-push}
 use Rattle.std.proofs.lemmas.List.Sorted.{IsPermutation-map}
 use Rattle.std.proofs.lemmas.Nat.{div-add-mod'}
 use Rattle.rx_value.specs.declared.values.Value.{Value}
@@ -13,8 +12,8 @@ use Rattle.rx_value.specs.declared.shapes.Part.{Part}
 use Rattle.rx_index.specs.declared.heads.Field.{Field}
 use Rattle.rx_index.specs.declared.orders.Placed.{Placed}
 use Rattle.rx_index.specs.Entries.{row_at}
-use Rattle.rx_index.specs.Heads.{IsHead, count_of, sizes, HasSpace}
-use Rattle.rx_index.specs.Placed.{words_cmp, ArePlaced, IsWords, IsNumbered, IsOrdered, TellApart}
+use Rattle.rx_index.specs.Heads.{IsHead, count_of, sizes}
+use Rattle.rx_index.specs.Placed.{words_cmp, IsWords, IsNumbered, IsOrdered, TellApart}
 use Rattle.rx_index.specs.Packed.{packed, unpacked, IsBrief, ArePackedTo, AreSorted}
 use Rattle.rx_index.proofs.Numbering.{one_more, order_of_words, apart_by_words}
 use Rattle.rx_index.proofs.Spaces.{digit_within, step}

@@ -1,5 +1,5 @@
 -- Rows of which each is before the next one by its key: their ids rise in the order of entries, and no key comes again.
-use Rattle.std.proofs.Common.{◌≡◌, ◌⊎◌, inl, inr, ℕ, zero, suc, ◌+◌, ◌-◌, ◌<◌, ◌≤◌, Bool, true, false, not, ◌&&◌, ◌||◌, nat_eq, List, [], ◌∷◌, length, map, filter, take, get_or, Option, None, refl, sym, ap, ap₂, ◌∙◌, subst, arith}
+use Rattle.std.proofs.Common.{◌≡◌, ◌⊎◌, inl, inr, ℕ, zero, suc, ◌+◌, ◌-◌, ◌<◌, ◌≤◌, Bool, true, false, not, ◌&&◌, ◌||◌, nat_eq, List, [], ◌∷◌, length, map, take, get_or, None, refl, sym, ap, ap₂, ◌∙◌, subst, arith}
 use Rattle.std.specs.declared.cmp.Ordering.{Ordering}
 use Rattle.std.specs.declared.cmp.Ordering.TheVariants.{Less, Equal, Greater}
 use Rattle.std.specs.Ordering.{ordering_then, ordering_reverse, is_lt, is_eq, nat_cmp}
@@ -101,7 +101,7 @@ module _ (parts : List Part) (rows : List (List Value)) (rise : DoRise parts row
         let n : k + 1 < length rows = omega (arith, lt, length-range_with_len 0 (length rows)) in
         ap₂ (λ x y. is_lt (entry_cmp parts rows x y)) (id_at (k + 1) d n) (id_at k d (omega (arith, n)))
         ∙ behind (by_key parts (row_at rows k) (row_at rows (k + 1))) (by_key parts (row_at rows (k + 1)) (row_at rows k)) (nat_cmp (k + 1) k)
-            ((by_key_total parts).antisymm (row_at rows (k + 1)) (row_at rows k)) (before k n);
+        ((by_key_total parts).antisymm (row_at rows (k + 1)) (row_at rows k)) (before k n);
   }
 
   key_apart : (i : ℕ) → 0 < i → i < length rows → is_eq (by_key parts (row_at rows (get_or ids (i - 1) 0)) (row_at rows (get_or ids i 0))) ≡ false

@@ -1,5 +1,5 @@
 -- A word with room for the numbers of what rows have on parts.
-use Rattle.std.proofs.Common.{◌≡◌, ℕ, suc, ◌+◌, ◌*◌, ◌<◌, ◌≤◌, ◌^◌, Bool, true, false, List, [], ◌∷◌, refl, sym, ap, ◌∙◌, subst, arith}
+use Rattle.std.proofs.Common.{◌≡◌, ℕ, ◌+◌, ◌*◌, ◌<◌, ◌≤◌, ◌^◌, Bool, true, false, List, [], ◌∷◌, sym, arith}
 use Rattle.rx_value.specs.declared.values.Value.{Value}
 use Rattle.rx_index.specs.declared.heads.Field.{Field}
 use Rattle.rx_index.specs.Heads.{count_of, turned, IsDigit, sizes, HasSpace}

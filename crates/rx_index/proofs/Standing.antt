@@ -1,47 +1,70 @@
--- Rows that stand by their keys already.
-use Rattle.std.proofs.Common.{◌≡◌, ◌⊎◌, inl, inr, ℕ, zero, suc, ◌+◌, ◌-◌, ◌<◌, ◌≤◌, false, List, [], length, get_or, refl, sym, ap, ap₂, ◌∙◌, arith}
+-- Rows that stand by their keys already, by the entries of an index on them.
+use Rattle.std.proofs.Common.{◌≡◌, ℕ, ◌+◌, ◌<◌, ◌≤◌, Bool, true, false, List, [], ◌∷◌, ◌++◌, length, take, get_or, refl, sym, ap, ap₂, ◌∙◌, subst, arith}
 use Rattle.std.specs.declared.cmp.Ordering.{Ordering}
 use Rattle.std.specs.declared.cmp.Ordering.TheVariants.{Less, Equal, Greater}
-use Rattle.std.specs.Ordering.{ordering_reverse, is_lt, is_gt}
+use Rattle.std.specs.Ordering.{ordering_then, is_lt, nat_cmp}
+use Rattle.std.specs.List.{range_with_len}
+use Rattle.std.proofs.lemmas.List.{take_more, take_all}
+use Rattle.std.proofs.lemmas.List.Sorted.{IsPermutation-refl, length_permutation}
+use Rattle.std.proofs.lemmas.List.FromFn.{length-range_with_len, get_or-range_with_len}
+use Rattle.std.proofs.lemmas.Option.{unwrap_or-slice_get}
 use Rattle.std.proofs.lemmas.List.{get_or_default}
-use Rattle.std.proofs.lemmas.List.Sorted.{IsPermutation-refl}
 use Rattle.rx_value.specs.declared.values.Value.{Value}
 use Rattle.rx_value.specs.declared.shapes.Part.{Part}
-use Rattle.rx_value.proofs.KeyOrder.{by_key, by_key_total}
-use Rattle.rx_index.specs.Entries.{IsByKey}
+use Rattle.rx_value.specs.declared.shapes.Index.{Index}
+use Rattle.rx_value.proofs.KeyOrder.{by_key}
+use Rattle.rx_index.specs.Entries.{row_at, entry_cmp, IsOrder, AreOrders, IsByKey, IsByPrimary, IsInIdOrder}
+use Rattle.rx_index.proofs.Sorting.{range_more}
 
-turned : (o p : Ordering) → p ≡ ordering_reverse o → is_gt o ≡ false → is_lt p ≡ false
-turned Less p e h = ap is_lt e
-turned Equal p e h = ap is_lt e
-turned Greater p e h = absurd (cc h)
+-- ---- the ids of all rows
 
-module _ (parts : List Part) (rows : List (List Value)) where
-  abbrev Stands : ℕ → Type 0
-  Stands place = (k : ℕ) → k + 1 < place → is_gt (by_key parts (get_or rows k []) (get_or rows (k + 1) [])) ≡ false
+-- one id more
+pub one_more : (ids : List ℕ) (place id : ℕ) → place < length ids → id ≡ get_or ids place id → id ≡ place → take place ids ≡ range_with_len 0 place → take (place + 1) ids ≡ range_with_len 0 (place + 1)
+one_more ids place id lt e same h =
+    take_more ids place id lt ∙ ap₂ (λ l n. l ++ n ∷ []) h (sym e ∙ same) ∙ sym (range_more place)
 
-  last_or : (k place : ℕ) → k + 1 < place + 1 → (k + 1 < place) ⊎ (k + 1 ≡ place)
-  last_or zero zero h = absurd (omega (arith, h))
-  last_or zero (suc zero) h = inr refl
-  last_or zero (suc (suc p)) h = inl (omega arith)
-  last_or (suc k) zero h = absurd (omega (arith, h))
-  last_or (suc k) (suc p) h = elim (last_or k p (omega (arith, h))) [ inl l ↦ inl (omega (arith, l)) | inr e ↦ inr (omega (arith, e)) ]
+pub all_ids : (ids : List ℕ) (place : ℕ) → length ids ≤ place → place ≤ length ids → take place ids ≡ range_with_len 0 place → ids ≡ range_with_len 0 (length ids)
+all_ids ids place le within h =
+    let same : place ≡ length ids = omega (arith, le, within) in
+    sym (take_all place ids le) ∙ h ∙ ap (range_with_len 0) same
 
-  pub stands_more : (place : ℕ) (a b : List Value) → 1 ≤ place → place < length rows → a ≡ get_or rows (place - 1) a → b ≡ get_or rows place b → is_gt (by_key parts a b) ≡ false → Stands place → Stands (place + 1)
-  stands_more place a b le lt e f h s k l = elim (last_or k place l) [
-    | inl m ↦ s k m
-    | inr n ↦
-        let first : get_or rows k [] ≡ a = ap (λ i. get_or rows i []) (omega (arith, n)) ∙ get_or_default rows (place - 1) [] a (omega (arith, le, lt)) ∙ sym e in
-        let second : get_or rows (k + 1) [] ≡ b = ap (λ i. get_or rows i []) n ∙ get_or_default rows place [] b lt ∙ sym f in
-        ap₂ (λ x y. is_gt (by_key parts x y)) first second ∙ h
-  ]
+-- ---- rows by their keys
 
-  pub all_stand : (place : ℕ) → length rows ≤ place → Stands place → IsByKey parts rows rows
-  all_stand place le s = record {
+not_less : (o t : Ordering) → is_lt (ordering_then o t) ≡ false → is_lt o ≡ false
+not_less Less t h = h
+not_less Equal t h = refl
+not_less Greater t h = refl
+
+module _ (parts : List Part) (rows : List (List Value)) (ids : List ℕ) (o : IsOrder parts rows ids) (all : ids ≡ range_with_len 0 (length ids)) where
+  as_many : length ids ≡ length rows
+  as_many = omega (arith, length_permutation (range_with_len 0 (length rows)) ids o.each, length-range_with_len 0 (length rows))
+
+  id_at : (k d : ℕ) → k < length rows → get_or ids k d ≡ k
+  id_at k d lt =
+      let within : k < length ids = omega (arith, lt, as_many) in
+      ap (λ l. get_or l k d) all ∙ (let e : get_or (range_with_len 0 (length ids)) k d ≡ k = omega (arith, get_or-range_with_len 0 (length ids) k d within) in e)
+
+  row_there : (k : ℕ) (d : List Value) → k < length rows → get_or rows k d ≡ row_at rows k
+  row_there k d lt = get_or_default rows k d [] lt ∙ sym (unwrap_or-slice_get rows k [])
+
+  pub by_entries : IsByKey parts rows rows
+  by_entries = record {
     same = IsPermutation-refl rows;
     rising = λ k d lo lt.
-        let n : k + 1 < place = omega (arith, lt, le) in
-        let x : get_or rows k d ≡ get_or rows k [] = get_or_default rows k d [] (omega (arith, lt)) in
-        let y : get_or rows (k + 1) d ≡ get_or rows (k + 1) [] = get_or_default rows (k + 1) d [] lt in
-        ap₂ (λ u v. is_lt (by_key parts u v)) y x
-        ∙ turned (by_key parts (get_or rows k []) (get_or rows (k + 1) [])) (by_key parts (get_or rows (k + 1) []) (get_or rows k [])) ((by_key_total parts).antisymm (get_or rows (k + 1) []) (get_or rows k [])) (s k n);
+        let below : k < length rows = omega (arith, lt) in
+        ap₂ (λ r s. is_lt (by_key parts r s)) (row_there (k + 1) d lt) (row_there k d below)
+        ∙ not_less (by_key parts (row_at rows (k + 1)) (row_at rows k)) (nat_cmp (k + 1) k)
+        (sym (ap₂ (λ x y. is_lt (entry_cmp parts rows x y)) (id_at (k + 1) 0 lt) (id_at k 0 below)) ∙ o.rising k 0 lo (omega (arith, lt, as_many)));
   }
+
+primary_stands : (b : Bool) (parts : List Part) (rows : List (List Value)) → IsByKey parts rows rows → IsByPrimary b parts rows rows
+primary_stands true parts rows h = h
+primary_stands false parts rows h = refl
+
+-- where the ids of the first index are those of all rows in turn
+pub stands_by_first : (indexes : List Index) (rows : List (List Value)) (orders : List (List ℕ)) → AreOrders indexes rows orders → (ids : List ℕ) → ids ≡ get_or orders 0 ids
+    → ids ≡ range_with_len 0 (length ids) → IsInIdOrder indexes rows rows
+stands_by_first [] rows orders h ids e all = refl
+stands_by_first (index ∷ others) rows [] h ids e all = absurd h
+stands_by_first (index ∷ others) rows (first ∷ orders) h ids e all =
+    primary_stands index.primary index.parts rows (by_entries index.parts rows first h.0 (subst (λ (l : List ℕ). l ≡ range_with_len 0 (length l)) e all))

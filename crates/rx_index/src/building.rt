@@ -1,17 +1,15 @@
 ghost use Rattle.std.specs.Prelude.{◌≡◌, ◌≤◌, ◌<◌, ◌^◌, true, length, IfOk, OnOk, IfErr};
 ghost use Rattle.rx_value.specs.Limits.{most_rows};
 ghost use Rattle.rx_value.specs.Shape.{IsSchema};
-ghost use Rattle.rx_value.specs.Keys.{key_of, key_cmp};
-ghost use Rattle.std.specs.Ordering.{is_gt};
-ghost use Rattle.rx_index.specs.Entries.{IsInIdOrder, IsByKey, IsIndexed};
+ghost use Rattle.std.specs.List.{range_with_len};
+ghost use Rattle.rx_index.specs.Entries.{AreOrders, IsInIdOrder, IsByKey, IsIndexed};
 ghost use Rattle.rx_index.specs.Duplicates.{IsFree, CausesFault};
 
 use crate::duplicates::entries_of;
 use crate::faults::IndexFault;
 use crate::indexed::Indexed;
-use rx_value::{Index, Part, Row, RowList, Schema, compare_keys};
+use rx_value::{Index, NumberList, Part, Row, RowList, Schema, compare_keys};
 use std::alloc::{AllocError, Global};
-use std::cmp::Ordering;
 
 // Rows by their keys on these parts.
 fn by_key(parts: &[Part], rows: RowList) -> Result<RowList, AllocError>
@@ -22,33 +20,26 @@ fn by_key(parts: &[Part], rows: RowList) -> Result<RowList, AllocError>
     Ok(RowList::from_vec(sorted))
 }
 
-fn is_behind(parts: &[Part], a: &Row, b: &Row) -> bool
-    ensures { result ≡ is_gt (key_cmp parts.now (key_of parts.now a.now) (key_of parts.now b.now)) }
+// Whether these are the ids of all rows, rising.
+fn are_all_ids(ids: &[u32]) -> bool
+    ensures { result ≡ true → ids.now ≡ range_with_len 0 (length ids.now) }
 {
-    match compare_keys(parts, a, b) {
-        Ordering::Greater => true,
-        _ => false,
-    }
-}
-
-// Whether rows stand by their keys on these parts already.
-fn are_by_key(parts: &[Part], rows: &[Row]) -> bool
-    ensures { result ≡ true → IsByKey parts.now rows.now rows.now }
-{
-    for place in 1..rows.len() {
-        if is_behind(parts, &rows[place - 1], &rows[place]) {
+    for place in 0..ids.len() {
+        if ids[place] as usize != place {
             return false;
         }
     }
     true
 }
 
-// Whether rows stand in the order of their ids already: by primary key, which is the first index, where there is one.
-fn are_in_id_order(indexes: &[Index], rows: &[Row]) -> bool
+// Whether rows stand in the order of their ids already, by the entries of their indexes: by primary key, which is the first
+// index, where there is one.
+fn are_in_id_order(indexes: &[Index], rows: &[Row], orders: &[NumberList]) -> bool
+    requires { AreOrders indexes.now rows.now orders.now }
     ensures { result ≡ true → IsInIdOrder indexes.now rows.now rows.now }
 {
-    match indexes {
-        [index, ..] if index.primary => are_by_key(index.parts.as_slice(), rows),
+    match (indexes, orders) {
+        ([index, ..], [ids, ..]) if index.primary => are_all_ids(ids.as_slice()),
         _ => true,
     }
 }
@@ -100,12 +91,12 @@ pub fn build(alloc: Global, schema: Schema, rows: RowList) -> Result<Indexed, In
             row: u64::from(first.row) + 1,
         });
     }
-    if are_in_id_order(indexes, rows.as_slice()) {
+    if are_in_id_order(indexes, rows.as_slice(), entries.orders.as_slice()) {
         return Ok(Indexed {
             schema,
             rows,
             orders: entries.orders,
-        different: entries.different,
+            different: entries.different,
         });
     }
     match indexed(alloc, schema, rows) {

@@ -8,9 +8,9 @@ ghost use Rattle.rx_index.specs.Placed.{ids_in, IsOrdered, TellApart};
 ghost use Rattle.rx_index.specs.Soonest.{IsSoonest, IsEnteredOn, sooner};
 
 use crate::different::{count_new_words, different_to, different_with};
+use crate::in_place::do_rise;
 use crate::orders::{Numbered, Placed, all_ids, ids_of, in_order};
 use crate::repeats::first_repeat;
-use crate::in_place::do_rise;
 use rx_value::{Column, Index, NumberList, OrderLists, Part, Row};
 use std::alloc::{AllocError, Global};
 

@@ -49,11 +49,7 @@ fn brief_fields(
 }
 
 // The rows by their ids as numbers, none where a key has no word.
-fn packed_by(
-    alloc: Global,
-    fields: &[Field],
-    rows: &[Row],
-) -> Result<Option<Vec<u128>>, AllocError>
+fn packed_by(alloc: Global, fields: &[Field], rows: &[Row]) -> Result<Option<Vec<u128>>, AllocError>
     requires few { length rows.now ≤ most_rows }
     requires brief { sizes fields.now ≤ 2 ^ 96 }
     ensures { IfOk result (λ o. IfSome o (λ numbers. ArePackedTo fields.now rows.now (length rows.now) numbers.items)) }

@@ -54,12 +54,7 @@ pub fn computed(alloc: Global, t: &Indexed) -> Result<Statistics, AllocError>
     let mut statistics = Statistics::with_capacity(alloc, count)?;
     for n in 0..count {
         let index = n as u32;
-        let numbers = numbers_of(
-            alloc,
-            t.parts(index),
-            t.rows.as_slice(),
-            t.different(index),
-        )?;
+        let numbers = numbers_of(alloc, t.parts(index), t.rows.as_slice(), t.different(index))?;
         statistics.push(numbers)?;
     }
     Ok(statistics)

@@ -1,5 +1,4 @@
-use Rattle.std.proofs.Common.{sym, subst, ◌+◌, ◌≡◌, ◌∙◌, arith}
-use Rattle.rx_index.specs.Marks.{count_new_words}
+use Rattle.std.proofs.Common.{sym, ◌∙◌, arith}
 use Rattle.rx_index.proofs.NewWords.{counted_new, counted_old, at_most}
 use Rattle.rx_index.proofs.different.count_new_words.Goals as goal
 use Rattle.rx_index.proofs.different.count_new_words.Goals.{then-has_new_words, else-has_new_words}

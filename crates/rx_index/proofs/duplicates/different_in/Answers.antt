@@ -1,4 +1,4 @@
-use Rattle.std.proofs.Common.{◌≡◌, length, ap, sym, subst, ◌∙◌, arith, rules}
+use Rattle.std.proofs.Common.{length, ap, sym, subst, ◌∙◌, arith, rules}
 use Rattle.rx_index.specs.Different.{HasDifferent, fronts}
 use Rattle.rx_index.specs.Marks.{count_new_words}
 use Rattle.rx_index.specs.Placed.{ids_in}

@@ -1,5 +1,4 @@
 use Rattle.std.proofs.Common.{length, sym, subst, ◌∙◌}
-use Rattle.std.proofs.Common.{None}
 use Rattle.rx_index.specs.Entries.{IsOrder}
 use Rattle.rx_index.specs.Different.{HasDifferent, fronts, AreDifferent}
 use Rattle.rx_index.proofs.Risen.{risen_order, risen_count, none_risen}

@@ -1,5 +1,5 @@
-use Rattle.std.proofs.Common.{◌≡◌, ◌+◌, ◌*◌, ◌^◌, ◌<◌, ◌∷◌, length, ap, sym, subst, ◌∙◌, arith, rules}
-use Rattle.rx_index.specs.Heads.{HasSpace, IsDigit, count_of}
+use Rattle.std.proofs.Common.{◌+◌, ◌*◌, ◌^◌, ◌<◌, sym, subst, arith, rules}
+use Rattle.rx_index.specs.Heads.{HasSpace}
 use Rattle.rx_index.proofs.Spaces.{size_fits, number_fits, space_on}
 use Rattle.rx_index.proofs.heads.+head.Goals as goal
 

@@ -1,4 +1,4 @@
-use Rattle.std.proofs.Common.{◌<◌, sym, subst, ap, ◌∙◌, ◌++◌, ◌∷◌, [], arith}
+use Rattle.std.proofs.Common.{subst, ap, ◌∙◌, ◌++◌, ◌∷◌, [], arith}
 use Rattle.rx_index.specs.Heads.{IsHead}
 use Rattle.rx_index.proofs.Numbering.{row_there}
 use Rattle.rx_index.proofs.Packing.{word_fits, packed_more}
