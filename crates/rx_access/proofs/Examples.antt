@@ -37,7 +37,7 @@ schema primary = record {
 
 -- its rows are 2 and 1, so that the entry of the second comes first
 abbrev rows_of : Bool → Indexed
-rows_of primary = record { schema = schema primary; rows = (i 2 ∷ []) ∷ (i 1 ∷ []) ∷ []; orders = (1 ∷ 0 ∷ []) ∷ [] }
+rows_of primary = record { schema = schema primary; rows = (i 2 ∷ []) ∷ (i 1 ∷ []) ∷ []; orders = (1 ∷ 0 ∷ []) ∷ []; different = (2 ∷ []) ∷ [] }
 
 -- the table
 abbrev table : Bool → Meaning

@@ -177,7 +177,7 @@ module _ (settings : Settings) (q : Question) (table : Meaning) where
   front P (x ∷ xs) ys h = (h.0, front P xs ys h.1)
 
   no_table : Indexed
-  no_table = record { schema = table.schema; rows = []; orders = [] }
+  no_table = record { schema = table.schema; rows = []; orders = []; different = [] }
 
   scans_run : AllByRecursion (IsScan table.schema) (table_scan table.count ∷ covering_scans q table)
   scans_run =

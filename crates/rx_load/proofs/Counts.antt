@@ -13,8 +13,10 @@ use Rattle.rx_value.specs.declared.shapes.Index.{Index}
 use Rattle.rx_index.specs.declared.indexed.Indexed.{Indexed}
 use Rattle.rx_group.specs.Classes.{same_values, firsts}
 use Rattle.rx_group.specs.OrderLaws.{values_equiv}
-use Rattle.rx_stats.specs.Computed.{HasDifferent, fronts, per_key, AreNumbers, AreComputed, IsComputed}
-use Rattle.rx_load.specs.Numbers.{different, numbers_of, statistics_of}
+use Rattle.rx_index.specs.Different.{HasDifferent, fronts, AreDifferent, AreAllDifferent}
+use Rattle.rx_stats.specs.Computed.{per_key, AreNumbers, AreComputed, IsComputed}
+use Rattle.rx_load.specs.Loaded.{different, counts_of}
+use Rattle.rx_load.specs.Numbers.{numbers_of, statistics_of}
 use Rattle.rx_load.proofs.Firsts.{same_values-equal}
 
 abbrev Keys : Type 0
@@ -95,6 +97,21 @@ count_is keys count s =
 
     all : (q : List Value) → list_any (same_values q) keys ≡ true → list_any (same_values q) s.each ≡ true
     all q h = list_any-from_Contains values_equiv q s.each (All-contains (Contains s.each) keys q s.all (Contains-from_any same_values-equal q keys h))
+
+counts_are : (parts : List Part) (rows : List (List Value)) (counts : List ℕ) → AreDifferent parts rows counts → counts ≡ counts_of parts rows
+counts_are parts rows counts s =
+    same_lists counts (counts_of parts rows) (s.as_many ∙ sym (length-map-range_with_len (different parts rows) 1 (length parts))) (λ k d lt.
+    let within : k < length parts = omega (arith, lt, s.as_many) in
+    get_or_default counts k d 0 lt
+    ∙ count_is (fronts parts (k + 1) rows) (get_or counts k 0) (s.each k within)
+    ∙ sym (get_or-map-range_with_len (different parts rows) 1 (length parts) k (k + 1) d within (omega arith)))
+
+-- indexes have one list of numbers of different keys
+pub all_counts_are : (indexes : List Index) (rows : List (List Value)) (counts : List (List ℕ)) → AreAllDifferent indexes rows counts → counts ≡ map (λ index. counts_of index.parts rows) indexes
+all_counts_are [] rows [] h = refl
+all_counts_are [] rows (one ∷ counts) h = absurd h
+all_counts_are (index ∷ indexes) rows [] h = absurd h
+all_counts_are (index ∷ indexes) rows (one ∷ counts) h = ap₂ (λ x xs. x ∷ xs) (counts_are index.parts rows one h.0) (all_counts_are indexes rows counts h.1)
 
 -- ---- numbers
 

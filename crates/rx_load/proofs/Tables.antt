@@ -14,7 +14,8 @@ use Rattle.rx_value.specs.Shape.{IsSchema, FitsIndex, FitsRow}
 use Rattle.rx_index.specs.declared.indexed.Indexed.{Indexed}
 use Rattle.rx_index.specs.Entries.{row_at, AreOrders, IsByPrimary, IsInIdOrder, IsIndexed}
 use Rattle.rx_index.specs.Duplicates.{is_null, IsFree}
-use Rattle.rx_load.specs.Loaded.{by_primary, in_id_order, entries, loaded}
+use Rattle.rx_load.specs.Loaded.{by_primary, in_id_order, entries, counts_of, loaded}
+use Rattle.rx_load.proofs.Counts.{all_counts_are}
 use Rattle.rx_load.proofs.Orders.{entries_are, rows_are}
 use Rattle.rx_load.proofs.Nulls.{key_not_null}
 
@@ -56,16 +57,20 @@ orders_are [] rows (ids ∷ orders) h = absurd h
 orders_are (index ∷ indexes) rows [] h = absurd h
 orders_are (index ∷ indexes) rows (ids ∷ orders) h = ap₂ (λ x xs. x ∷ xs) (entries_are index.parts rows ids h.0) (orders_are indexes rows orders h.1)
 
-same_table : (t : Indexed) (schema : Schema) (rows : List (List Value)) (orders : List (List ℕ)) → t.schema ≡ schema → t.rows ≡ rows → t.orders ≡ orders → t ≡ record { schema = schema; rows = rows; orders = orders }
-same_table t schema rows orders p q r = λ i. record { schema = p i; rows = q i; orders = r i }
+same_table : (t : Indexed) (schema : Schema) (rows : List (List Value)) (orders different : List (List ℕ)) → t.schema ≡ schema → t.rows ≡ rows → t.orders ≡ orders → t.different ≡ different
+    → t ≡ record { schema = schema; rows = rows; orders = orders; different = different }
+same_table t schema rows orders different p q r s = λ i. record { schema = p i; rows = q i; orders = r i; different = s i }
 
 -- the table that rows without duplicates make
 pub table_is : (schema : Schema) (file : List (List Value)) (t : Indexed) → IsSchema schema → All (FitsRow schema) file → IsFree schema file → IsIndexed schema file t → t ≡ loaded schema file
 table_is schema file t is fit free s =
     let rows : t.rows ≡ in_id_order schema.indexes file = in_order schema.indexes file t.rows (apart schema file is fit free) s.rows_are in
     let orders = orders_are t.schema.indexes t.rows t.orders s.entered.orders in
-    same_table t schema (in_id_order schema.indexes file) (map (λ index. entries index.parts (in_id_order schema.indexes file)) schema.indexes) s.schema_is rows
+    let different = all_counts_are t.schema.indexes t.rows t.different s.entered.different in
+    same_table t schema (in_id_order schema.indexes file) (map (λ index. entries index.parts (in_id_order schema.indexes file)) schema.indexes)
+    (map (λ index. counts_of index.parts (in_id_order schema.indexes file)) schema.indexes) s.schema_is rows
     (orders ∙ ap₂ (λ (l : List Index) (r : List (List Value)). map (λ (index : Index). entries index.parts r) l) (ap (λ (x : Schema). x.indexes) s.schema_is) rows)
+    (different ∙ ap₂ (λ (l : List Index) (r : List (List Value)). map (λ (index : Index). counts_of index.parts r) l) (ap (λ (x : Schema). x.indexes) s.schema_is) rows)
 
 kept_by : (P : List Value → Type 0) (primary : Bool) (parts : List Part) (file rows : List (List Value)) → IsByPrimary primary parts file rows → All P file → All P rows
 kept_by P true parts file rows s h = All-permutation P file rows s.same h

@@ -9,6 +9,8 @@ use Rattle.rx_value.specs.declared.shapes.Schema.{Schema}
 use Rattle.rx_value.specs.Keys.{key_of, key_cmp}
 use Rattle.rx_index.specs.declared.indexed.Indexed.{Indexed}
 use Rattle.rx_index.specs.Entries.{entry_cmp}
+use Rattle.rx_index.specs.Different.{fronts}
+use Rattle.rx_group.specs.Classes.{firsts}
 use Rattle.rx_order.specs.Stable.{ordered}
 
 -- the key of one row on these parts comes before that of another
@@ -33,9 +35,22 @@ is_entry_before parts rows a b = is_lt (entry_cmp parts rows a b)
 abbrev pub entries : List Part → List (List Value) → List ℕ
 entries parts rows = ordered (is_entry_before parts rows) (range_with_len 0 (length rows))
 
--- a table of rows in the order of their ids, with the entries of each index
+-- how many different keys rows have on the first parts of an index
+abbrev pub different : List Part → List (List Value) → ℕ → ℕ
+different parts rows n = length (firsts (λ key. key) (fronts parts n rows))
+
+-- the same on its first part, on its first two, and so on
+abbrev pub counts_of : List Part → List (List Value) → List ℕ
+counts_of parts rows = map (different parts rows) (range_with_len 1 (length parts))
+
+-- a table of rows in the order of their ids, with the entries of each index and how many different keys it has
 abbrev pub with_entries : Schema → List (List Value) → Indexed
-with_entries schema rows = record { schema = schema; rows = rows; orders = map (λ index. entries index.parts rows) schema.indexes }
+with_entries schema rows = record {
+  schema = schema;
+  rows = rows;
+  orders = map (λ index. entries index.parts rows) schema.indexes;
+  different = map (λ index. counts_of index.parts rows) schema.indexes;
+}
 
 -- The table of a schema and the rows of a file.
 abbrev pub loaded : Schema → List (List Value) → Indexed

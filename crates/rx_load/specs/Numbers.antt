@@ -4,12 +4,8 @@ use Rattle.std.specs.List.{range_with_len}
 use Rattle.rx_value.specs.declared.values.Value.{Value}
 use Rattle.rx_value.specs.declared.shapes.Part.{Part}
 use Rattle.rx_index.specs.declared.indexed.Indexed.{Indexed}
-use Rattle.rx_group.specs.Classes.{firsts}
-use Rattle.rx_stats.specs.Computed.{fronts, per_key}
-
--- how many different keys rows have on the first parts of an index
-abbrev pub different : List Part → List (List Value) → ℕ → ℕ
-different parts rows n = length (firsts (λ key. key) (fronts parts n rows))
+use Rattle.rx_stats.specs.Computed.{per_key}
+use Rattle.rx_load.specs.Loaded.{different}
 
 -- the numbers of records per key of the first part of an index, of its first two, and so on
 abbrev pub numbers_of : List Part → List (List Value) → List ℕ

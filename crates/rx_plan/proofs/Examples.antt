@@ -83,6 +83,7 @@ seven = record {
   schema = three;
   rows = (Null ∷ i 1 ∷ i 1 ∷ []) ∷ (Null ∷ i 1 ∷ i 2 ∷ []) ∷ (Null ∷ i 2 ∷ i 3 ∷ []) ∷ (i 1 ∷ i 1 ∷ i 1 ∷ []) ∷ (i 1 ∷ i 1 ∷ i 2 ∷ []) ∷ (i 1 ∷ i 2 ∷ i 1 ∷ []) ∷ (i 2 ∷ i 1 ∷ i 1 ∷ []) ∷ [];
   orders = (0 ∷ 1 ∷ 2 ∷ 3 ∷ 4 ∷ 5 ∷ 6 ∷ []) ∷ [];
+  different = (3 ∷ 5 ∷ 7 ∷ []) ∷ [];
 }
 
 abbrev all_three : List Item
@@ -112,7 +113,7 @@ abbrev pair : Schema
 pair = schema (column ∷ column ∷ []) (index false (part 0 ∷ []) ∷ [])
 
 abbrev empty : Indexed
-empty = record { schema = pair; rows = []; orders = [] ∷ [] }
+empty = record { schema = pair; rows = []; orders = [] ∷ []; different = (0 ∷ []) ∷ [] }
 
 tie : map line_of (candidates default_settings (asks (Item_column 1 ∷ []) (equals 0 1) (true ∷ [])) (meaning pair ((1 ∷ []) ∷ []) empty) empty first_is_one)
     ≡ (Table, 20, 0) ∷ (Range, 20, 0) ∷ []
