@@ -1,1 +1,9 @@
+pub mod Counted
+pub mod Disjoined
 pub mod Found
+pub mod Gathered
+pub mod Meetings
+pub mod Narrowed
+pub mod Open
+pub mod Running
+pub mod Steps

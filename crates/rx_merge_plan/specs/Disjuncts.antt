@@ -1,5 +1,5 @@
 -- The scans of conditions of their own on the indexes of a table: of a whole condition, and of the disjuncts of its disjunctions.
-use Rattle.std.specs.Prelude.{◌≡◌, ◌≤◌, ℕ, ◌+◌, Bool, true, false, not, ◌&&◌, ◌||◌, nat_eq, if◌then◌else◌, List, [], ◌∷◌, map, Some, None}
+use Rattle.std.specs.Prelude.{◌≡◌, ◌≤◌, ℕ, ◌+◌, Bool, true, false, not, ◌&&◌, ◌||◌, nat_eq, nat_le, if◌then◌else◌, List, [], ◌∷◌, length, map, Some, None}
 use Rattle.std.specs.List.{filter, list_any, list_all, sum_by}
 use Rattle.rx_value.specs.declared.shapes.Schema.{Schema}
 use Rattle.rx_cond.specs.Tree.{Tree, disj}
@@ -15,6 +15,7 @@ use Rattle.rx_cost.specs.declared.candidates.Scan.{Scan}
 use Rattle.rx_plan.specs.Naming.{is_usable, index_numbers}
 use Rattle.rx_plan.specs.Known.{Known, Ranged, items_limit, ranged_as, ranged_in}
 use Rattle.rx_plan.specs.Candidates.{estimated}
+use Rattle.rx_merges.specs.Fitting.{most_disjuncts}
 
 -- what is known of an index by its number: the answer of a condition on its parts, where the index is usable
 abbrev pub known_at : Settings → Question → Schema → Tree → ℕ → Known
@@ -56,13 +57,21 @@ has_index index list = list_any (λ r. nat_eq r.index index) list
 abbrev pub is_open : Question → Schema → List (List Ranged) → Bool
 is_open q schema lists = not (list_any (λ index. is_usable q index && list_all (has_index index) lists) (index_numbers schema))
 
+-- there are no more disjuncts than a union is made of
+abbrev pub has_few_disjuncts : List (List Ranged) → Bool
+has_few_disjuncts lists = nat_le (length lists) most_disjuncts
+
+-- A disjunction is considered: it is open, and has few disjuncts. One with more than 1,048,576, which takes a statement of over a million, is taken as not open.
+abbrev pub is_considered : Question → Schema → List (List Ranged) → Bool
+is_considered q schema lists = has_few_disjuncts lists && is_open q schema lists
+
 -- the disjunctions among the conjuncts of a question's condition, in order
 abbrev pub disjunctions : Question → List Tree
 disjunctions q = filter is_disjunction (conjuncts_of q.cond)
 
--- of each open disjunction the indexes that each disjunct narrows to ranges
+-- of each open disjunction that is considered, the indexes that each disjunct narrows to ranges
 abbrev pub open_lists : Settings → Question → Schema → List (List (List Ranged))
-open_lists settings q schema = filter (is_open q schema) (map (ranged_lists settings q schema) (disjunctions q))
+open_lists settings q schema = filter (is_considered q schema) (map (ranged_lists settings q schema) (disjunctions q))
 
 -- the scan of the ranges of an index that are taken to have so many rows, for a disjunct by its place from 1
 abbrev pub ranged_scan : Settings → ℕ → Ranged → ℕ → Scan
@@ -103,6 +112,6 @@ asks_intersections settings = settings.merge && settings.intersection
 abbrev pub seeks_of : Settings → List Ranged → ℕ
 seeks_of settings list = sum_by (λ r. dive_seeks settings.dive_limit r.list) list
 
--- how many seeks the estimates of the ranges of disjuncts take: those of each open disjunction, where unions are asked for
+-- how many seeks the estimates of the ranges of disjuncts take: those of each open disjunction that is considered, where unions are asked for
 abbrev pub merge_seeks : Settings → Question → Schema → ℕ
 merge_seeks settings q schema = if asks_unions settings then sum_by (sum_by (seeks_of settings)) (open_lists settings q schema) else 0

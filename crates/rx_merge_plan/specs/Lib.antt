@@ -1,2 +1,3 @@
 pub mod Disjuncts
+pub mod Lists
 pub mod Merges

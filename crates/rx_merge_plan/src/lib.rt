@@ -3,7 +3,14 @@
 #![tactic(auto)]
 
 mod counting;
+mod disjoining;
 mod finding;
+mod intersecting;
+mod planning;
+mod plans;
+mod uniting;
 
 pub use counting::count_scans;
 pub use finding::find_scans;
+pub use planning::merges;
+pub use plans::MergePlans;
