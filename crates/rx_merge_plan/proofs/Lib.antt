@@ -5,5 +5,6 @@ pub mod Gathered
 pub mod Meetings
 pub mod Narrowed
 pub mod Open
+pub mod Primary
 pub mod Running
 pub mod Steps

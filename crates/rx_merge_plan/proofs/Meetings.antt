@@ -13,12 +13,15 @@ use Rattle.rx_plan.specs.Known.{Ranged, ranged_in}
 use Rattle.rx_plan.specs.Plan.{AreRangeScans, IsOrdinary}
 use Rattle.rx_merges.specs.Fitting.{AreScans}
 use Rattle.rx_merges.specs.Intersections.{intersections_among}
-use Rattle.rx_merge_plan.specs.Disjuncts.{known_by, ranged_by, found_scan, ranged_scan, scans_of, asks_intersections}
-use Rattle.rx_merge_plan.specs.Merges.{intersections, CanMerge}
+use Rattle.rx_merges.specs.Rules.{IsIntersection}
+use Rattle.rx_merges.proofs.Ruling.{intersections_are}
+use Rattle.rx_merge_plan.specs.Disjuncts.{known_by, ranged_by, found_scan, ranged_scan, asks_intersections}
+use Rattle.rx_merge_plan.specs.Merges.{intersections_at, intersections, CanMerge}
 use Rattle.rx_merge_plan.specs.Lists.{scans_in, AreCounted}
 use Rattle.rx_merge_plan.proofs.Narrowed.{known_same}
 use Rattle.rx_merge_plan.proofs.Counted.{AreReady, found_are, found_told, ready}
 use Rattle.rx_merge_plan.proofs.Running.{intersections_run}
+use Rattle.rx_merge_plan.proofs.Primary.{counted_are}
 
 module _ (settings : Settings) (q : Question) (table : Meaning) where
   -- the scans of range scans are those of a condition of its own, after their ranges were counted
@@ -39,7 +42,7 @@ module _ (settings : Settings) (q : Question) (table : Meaning) where
   pub not_asked : (list : List Candidate) → asks_intersections settings ≡ false → list ≡ [] → IfSome table.told (λ t. list ≡ intersections settings q table t (known_by settings q table.schema q.cond))
   not_asked list asked none =
       when table.told refl list (λ t. intersections settings q table t (known_by settings q table.schema q.cond)) (λ t e.
-      none ∙ sym (ap (λ (b : Bool). if b then intersections_among true (columns_named q table.schema) table.schema table.count (scans_of settings table t 1 (ranged_by settings q table.schema q.cond)) else []) asked))
+      none ∙ sym (ap (λ (b : Bool). if b then intersections_at settings q table t (ranged_by settings q table.schema q.cond) else []) asked))
 
   module _ (plan : OrdinaryPlan) (is : IsOrdinary settings q table plan) where
     counted : AreCounted settings table (map (found_scan 1) (ranged_by settings q table.schema q.cond)) (scans_in plan.ranges)
@@ -67,9 +70,15 @@ module _ (settings : Settings) (q : Question) (table : Meaning) where
             when table.told refl list (λ t. intersections settings q table t (known_by settings q table.schema q.cond)) (λ t e.
             met_by
             ∙ ap (intersections_among true (columns_named q table.schema) table.schema table.count) (found_told settings table t 1 (ranged_by settings q table.schema q.cond) (scans_in plan.ranges) e counted)
-            ∙ sym (ap (λ (b : Bool). if b then intersections_among true (columns_named q table.schema) table.schema table.count (scans_of settings table t 1 (ranged_by settings q table.schema q.cond)) else []) asked))
+            ∙ sym (ap (λ (b : Bool). if b then intersections_at settings q table t (ranged_by settings q table.schema q.cond) else []) asked))
 
         pub met_run : All (CanMerge table.schema) list
         met_run =
             let h = ranges_ready sound in
             subst (All (CanMerge table.schema)) (sym met_by) (intersections_run table.schema table.count (scans_in plan.ranges) h.are h.each true (columns_named q table.schema))
+
+        -- and keep the rules
+        pub met_rules : All (IsIntersection table.schema) list
+        met_rules =
+            subst (All (IsIntersection table.schema)) (sym met_by) (intersections_are true (columns_named q table.schema) table.schema table.count (scans_in plan.ranges)
+            (counted_are settings table q q.cond 1 (scans_in plan.ranges) sound.limits counted))

@@ -20,10 +20,13 @@ use Rattle.rx_merges.specs.Unions.{union_of}
 use Rattle.rx_merge_plan.specs.declared.plans.MergePlans.{MergePlans}
 use Rattle.rx_merge_plan.specs.Disjuncts.{known_by, scans_of, scan_lists, open_lists, asks_unions, asks_intersections}
 
--- the intersections of a question in order, by what is known of the indexes and the rows that the table tells
+-- the intersections of the scans on the indexes that a condition narrows, by the rows that the table tells
+abbrev pub intersections_at : Settings → Question → Meaning → Indexed → List Ranged → List Candidate
+intersections_at settings q table t list = intersections_among true (columns_named q table.schema) table.schema table.count (scans_of settings table t 1 list)
+
+-- the intersections of a question in order, by what is known of the indexes
 abbrev pub intersections : Settings → Question → Meaning → Indexed → List Known → List Candidate
-intersections settings q table t known =
-    if asks_intersections settings then intersections_among true (columns_named q table.schema) table.schema table.count (scans_of settings table t 1 (ranged_in known)) else []
+intersections settings q table t known = if asks_intersections settings then intersections_at settings q table t (ranged_in known) else []
 
 -- the union of a disjunction, where there is one, by the indexes that each disjunct narrows to ranges
 abbrev pub union_at : Settings → Meaning → Indexed → List (List Ranged) → Option Candidate

@@ -10,6 +10,7 @@ ghost use Rattle.rx_plan.specs.Naming.{columns_named};
 ghost use Rattle.rx_plan.specs.Plan.{IsOrdinary};
 ghost use Rattle.rx_merges.specs.Fitting.{AreScans};
 ghost use Rattle.rx_merges.specs.Intersections.{intersections_among};
+ghost use Rattle.rx_merges.specs.Rules.{IsIntersection};
 ghost use Rattle.rx_merge_plan.specs.Disjuncts.{known_by, asks_intersections};
 ghost use Rattle.rx_merge_plan.specs.Merges.{intersections, CanMerge};
 ghost use Rattle.rx_merge_plan.specs.Lists.{scans_in};
@@ -88,6 +89,7 @@ pub(crate) fn intersections<T: Table>(
     ensures told { IfOk result (λ list. IfSome (T.means table.now).told (λ t. list ≡ intersections settings.now (question_of query.now) (T.means table.now) t
         (known_by settings.now (question_of query.now) (T.means table.now).schema (question_of query.now).cond))) }
     ensures can_run { IfOk result (All (CanMerge (T.means table.now).schema)) }
+    ensures rules { IfOk result (All (IsIntersection (T.means table.now).schema)) }
 {
     if !asks_intersections(settings) {
         return Ok(CandidateList::new(alloc));

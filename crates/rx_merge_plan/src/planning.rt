@@ -5,6 +5,7 @@ ghost use Rattle.rx_query.specs.Steps.{question_of};
 ghost use Rattle.rx_store.specs.Tables.{Keeps};
 ghost use Rattle.rx_estimate.specs.Estimates.{with_seeks};
 ghost use Rattle.rx_plan.specs.Plan.{IsOrdinary};
+ghost use Rattle.rx_merges.specs.Rules.{IsIntersection};
 ghost use Rattle.rx_merge_plan.specs.Disjuncts.{merge_seeks};
 ghost use Rattle.rx_merge_plan.specs.Merges.{AreMerges, CanMerge};
 
@@ -35,6 +36,7 @@ pub fn merges<T: Table>(
     requires { IsOrdinary settings.now (question_of query.now) (T.means table.old) known.now }
     ensures told { IfOk result (λ plans. IfSome (T.means table.old).told (λ t. AreMerges settings.now (question_of query.now) (T.means table.old) t plans)) }
     ensures can_run { IfOk result (λ plans. All (CanMerge (T.means table.old).schema) (plans.intersections ++ plans.unions)) }
+    ensures rules { IfOk result (λ plans. All (IsIntersection (T.means table.old).schema) plans.intersections) }
     ensures counts { OnOk result ((T.tally table.new).counts ≡ with_seeks (merge_seeks settings.now (question_of query.now) (T.means table.old).schema) (T.tally table.old).counts) }
     ensures keeps { OnOk result (Keeps T.means T.tally T.kept T.spent None table.old table.new) }
     ensures cause { IfErr result (λ f. Keeps T.means T.tally T.kept T.spent (Some f) table.old table.new) }
