@@ -30,7 +30,8 @@ module _ (schema : Schema) where
   meeting member (r ∷ rs) h = (record { there = h.0.there; ranges = h.0.few; role = tt }, meeting member rs h.1)
 
   -- the scans that a condition gives
-  pub found_are : (settings : Settings) (q : Question) (cond : Tree) (member : ℕ) → IsSchema schema → AreFound schema (map (found_scan member) (ranged_by settings q schema cond))
+  pub found_are : (settings : Settings) (q : Question) (cond : Tree) (member : ℕ) → IsSchema schema
+      → AreFound schema (map (found_scan member) (ranged_by settings q schema cond))
   found_are settings q cond member is =
       let rs = ranged_by settings q schema cond in
       record {
@@ -53,11 +54,13 @@ as_many member [] = refl
 as_many member (list ∷ lists) = ap suc (as_many (member + 1) lists)
 
 -- one disjunct more
-pub found_push : (member : ℕ) (lists : List (List Ranged)) (list : List Ranged) → found_lists member (lists ++ list ∷ []) ≡ found_lists member lists ++ map (found_scan (member + length lists)) list ∷ []
+pub found_push : (member : ℕ) (lists : List (List Ranged)) (list : List Ranged)
+    → found_lists member (lists ++ list ∷ []) ≡ found_lists member lists ++ map (found_scan (member + length lists)) list ∷ []
 found_push member [] list = let e : member ≡ member + 0 = omega arith in ap (λ (m : ℕ). map (found_scan m) list ∷ []) e
 found_push member (first ∷ lists) list =
     let e : (member + 1) + length lists ≡ member + suc (length lists) = omega arith in
-    ap (λ l. map (found_scan member) first ∷ l) (found_push (member + 1) lists list ∙ ap (λ (m : ℕ). found_lists (member + 1) lists ++ map (found_scan m) list ∷ []) e)
+    ap (λ l. map (found_scan member) first ∷ l) (found_push (member + 1) lists list
+    ∙ ap (λ (m : ℕ). found_lists (member + 1) lists ++ map (found_scan m) list ∷ []) e)
 
 -- ---- the seeks
 
@@ -97,45 +100,52 @@ module _ (settings : Settings) (table : Meaning) where
     counted_found member (r ∷ rs) = ap (λ l. counted_scan settings table t (found_scan member r) ∷ l) (counted_found member rs)
 
     -- the scans of each disjunct, by the rows that the table tells
-    pub lists_counted : (member : ℕ) (lists : List (List Ranged)) → counted_lists settings table t (found_lists member lists) ≡ scan_lists settings table t member lists
+    pub lists_counted : (member : ℕ) (lists : List (List Ranged))
+        → counted_lists settings table t (found_lists member lists) ≡ scan_lists settings table t member lists
     lists_counted member [] = refl
     lists_counted member (list ∷ lists) = ap₂ (λ x l. x ∷ l) (counted_found member list) (lists_counted (member + 1) lists)
 
     rows_told : (scan counted : Scan) → table.told ≡ Some t → IsCountedScan settings table scan counted
         → counted.rows ≡ estimated settings table t (record { index = scan.index; list = scan.ranges })
     rows_told scan counted e h =
-        subst (λ (o : Option Indexed). IfSome o (λ t. counted.rows ≡ estimated settings table t (record { index = scan.index; list = scan.ranges }))) e h.estimate
+        subst (λ (o : Option Indexed). IfSome o (λ t. counted.rows ≡ estimated settings table t (record { index = scan.index; list = scan.ranges }))) e
+        h.estimate
 
     scan_told : (scan counted : Scan) → table.told ≡ Some t → IsCountedScan settings table scan counted → counted ≡ counted_scan settings table t scan
     scan_told scan counted e h =
         h.is ∙ ap (λ (n : ℕ). record scan { dives = (counted_scan settings table t scan).dives; rows = n }) (rows_told scan counted e h)
 
-    pub scans_told : (scans counted : List Scan) → table.told ≡ Some t → AreCounted settings table scans counted → counted ≡ map (counted_scan settings table t) scans
+    pub scans_told : (scans counted : List Scan) → table.told ≡ Some t → AreCounted settings table scans counted
+        → counted ≡ map (counted_scan settings table t) scans
     scans_told [] [] e h = refl
     scans_told [] (y ∷ ys) e h = absurd h
     scans_told (x ∷ xs) [] e h = absurd h
     scans_told (x ∷ xs) (y ∷ ys) e h = ap₂ (λ z l. z ∷ l) (scan_told x y e h.0) (scans_told xs ys e h.1)
 
-    pub lists_told : (lists counted : List (List Scan)) → table.told ≡ Some t → AllZip (AreCounted settings table) lists counted → counted ≡ counted_lists settings table t lists
+    pub lists_told : (lists counted : List (List Scan)) → table.told ≡ Some t → AllZip (AreCounted settings table) lists counted
+        → counted ≡ counted_lists settings table t lists
     lists_told [] [] e h = refl
     lists_told [] (y ∷ ys) e h = absurd h
     lists_told (x ∷ xs) [] e h = absurd h
     lists_told (x ∷ xs) (y ∷ ys) e h = ap₂ (λ z l. z ∷ l) (scans_told x y e h.0) (lists_told xs ys e h.1)
 
     -- the scans of one condition
-    pub found_told : (member : ℕ) (rs : List Ranged) (counted : List Scan) → table.told ≡ Some t → AreCounted settings table (map (found_scan member) rs) counted
+    pub found_told : (member : ℕ) (rs : List Ranged) (counted : List Scan) → table.told ≡ Some t
+        → AreCounted settings table (map (found_scan member) rs) counted
         → counted ≡ scans_of settings table t member rs
     found_told member rs counted e h = scans_told (map (found_scan member) rs) counted e h ∙ counted_found member rs
 
   -- told or not, they can be merged
-  meet_counted : (scans counted : List Scan) → AllByRecursion (CanMeet table.schema) scans → AreCounted settings table scans counted → AllByRecursion (CanMeet table.schema) counted
+  meet_counted : (scans counted : List Scan) → AllByRecursion (CanMeet table.schema) scans → AreCounted settings table scans counted
+      → AllByRecursion (CanMeet table.schema) counted
   meet_counted [] [] k h = tt
   meet_counted [] (y ∷ ys) k h = absurd h
   meet_counted (x ∷ xs) [] k h = absurd h
   meet_counted (x ∷ xs) (y ∷ ys) k h =
       (subst (CanMeet table.schema) (sym h.0.is) (record { there = k.0.there; ranges = k.0.ranges; role = k.0.role }), meet_counted xs ys k.1 h.1)
 
-  rows_counted : (scans counted : List Scan) → AllByRecursion (CanMeet table.schema) counted → AreCounted settings table scans counted → AllByRecursion (IsCounted table.count) counted
+  rows_counted : (scans counted : List Scan) → AllByRecursion (CanMeet table.schema) counted → AreCounted settings table scans counted
+      → AllByRecursion (IsCounted table.count) counted
   rows_counted [] [] k h = tt
   rows_counted [] (y ∷ ys) k h = absurd h
   rows_counted (x ∷ xs) [] k h = absurd h
@@ -154,16 +164,20 @@ module _ (settings : Settings) (table : Meaning) where
         each = each;
       }
 
-  each_ready : (lists counted : List (List Scan)) → AllByRecursion (AreFound table.schema) lists → AllZip (AreCounted settings table) lists counted → AllByRecursion (AreReady table.schema table.count) counted
+  each_ready : (lists counted : List (List Scan)) → AllByRecursion (AreFound table.schema) lists → AllZip (AreCounted settings table) lists counted
+      → AllByRecursion (AreReady table.schema table.count) counted
   each_ready [] [] k h = tt
   each_ready [] (y ∷ ys) k h = absurd h
   each_ready (x ∷ xs) [] k h = absurd h
   each_ready (x ∷ xs) (y ∷ ys) k h = (ready x y k.0 h.0, each_ready xs ys k.1 h.1)
 
-  pub all_ready : (lists counted : List (List Scan)) → All (AreFound table.schema) lists → AllZip (AreCounted settings table) lists counted → All (AreReady table.schema table.count) counted
-  all_ready lists counted k h = All-from_recursion (AreReady table.schema table.count) counted (each_ready lists counted (recursion_from_All (AreFound table.schema) lists k) h)
+  pub all_ready : (lists counted : List (List Scan)) → All (AreFound table.schema) lists → AllZip (AreCounted settings table) lists counted
+      → All (AreReady table.schema table.count) counted
+  all_ready lists counted k h = All-from_recursion (AreReady table.schema table.count) counted
+      (each_ready lists counted (recursion_from_All (AreFound table.schema) lists k) h)
 
 -- each index is there, as the table is
 pub there_found : (table now : Meaning) (scans : List Scan) → now ≡ table → AreFound table.schema scans → All (λ scan. HasIndex now scan.index) scans
 there_found table now scans same found =
-    subst (λ (m : Meaning). All (λ scan. HasIndex m scan.index) scans) (sym same) (All-weaker (CanMeet table.schema) (λ s. s.index < length table.schema.indexes) (λ s k. k.there) scans found.each)
+    subst (λ (m : Meaning). All (λ scan. HasIndex m scan.index) scans) (sym same)
+    (All-weaker (CanMeet table.schema) (λ s. s.index < length table.schema.indexes) (λ s k. k.there) scans found.each)

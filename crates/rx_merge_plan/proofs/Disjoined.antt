@@ -43,10 +43,18 @@ if_any Q so (Some x) = so x
 
 -- ---- what is found
 
-module _ (settings : Settings) (q : Question) (schema : Schema) (cond : Tree) {R C : Type 0} (now : R → C) (tree : C → Tree) (items : List R) (parts : List C) (view : map now items ≡ parts)
+module _ (settings : Settings) (q : Question) (schema : Schema) (cond : Tree) {R C : Type 0}
+    (now : R → C) (tree : C → Tree) (items : List R) (parts : List C) (view : map now items ≡ parts)
     (are : map tree parts ≡ disjuncts_of cond) where
   as_listed : length (ranged_lists settings q schema cond) ≡ length items
-  as_listed = omega (arith, length-map items now, ap length view, length-map parts tree, ap length are, length-map (disjuncts_of cond) (ranged_by settings q schema))
+  as_listed = omega (
+    arith,
+    length-map items now,
+    ap length view,
+    length-map parts tree,
+    ap length are,
+    length-map (disjuncts_of cond) (ranged_by settings q schema),
+  )
 
   pub few_parts : nat_le (length items) most_disjuncts ≡ true → length parts ≤ most_disjuncts
   few_parts e = omega (arith, at_most (length items) most_disjuncts e, length-map items now, ap length view)
@@ -64,14 +72,17 @@ module _ (settings : Settings) (q : Question) (schema : Schema) (cond : Tree) {R
     pub none_open : are_open q schema found ≡ false → None ≡ found_where q schema (ranged_lists settings q schema cond)
     none_open e = not_open q schema (ranged_lists settings q schema cond) (ap (are_open q schema) (sym found_same) ∙ e)
 
-    pub some_open : nat_le (length items) most_disjuncts ≡ true → are_open q schema found ≡ true → Some found ≡ found_where q schema (ranged_lists settings q schema cond)
+    pub some_open : nat_le (length items) most_disjuncts ≡ true → are_open q schema found ≡ true
+        → Some found ≡ found_where q schema (ranged_lists settings q schema cond)
     some_open few e =
         ap Some found_same ∙ considered q schema (ranged_lists settings q schema cond) (few_same ∙ few) (ap (are_open q schema) (sym found_same) ∙ e)
 
 -- ---- what is counted and joined
 
-module _ (settings : Settings) (table now : Meaning) (lists counted slice : List (List Scan)) (schema : Schema) (count : ℕ) (same : now ≡ table) (p : schema ≡ now.schema) (n : count ≡ now.count)
-    (v : slice ≡ counted) (found : All (AreFound table.schema) lists) (are : AllZip (AreCounted settings table) lists counted) (few : length lists ≤ most_disjuncts) where
+module _ (settings : Settings) (table now : Meaning) (lists counted slice : List (List Scan)) (schema : Schema) (count : ℕ) (same : now ≡ table)
+    (p : schema ≡ now.schema) (n : count ≡ now.count)
+    (v : slice ≡ counted) (found : All (AreFound table.schema) lists) (are : AllZip (AreCounted settings table) lists counted)
+    (few : length lists ≤ most_disjuncts) where
   many_counted : length counted ≤ most_disjuncts
   many_counted = omega (arith, few, AllZip-long (AreCounted settings table) lists counted are)
 
@@ -80,13 +91,15 @@ module _ (settings : Settings) (table now : Meaning) (lists counted slice : List
 
   pub all_scans : All (AreScans schema count) slice
   all_scans =
-      rw (p, n, same, v) (All-weaker (AreReady table.schema table.count) (AreScans table.schema table.count) (λ s k. k.are) counted (all_ready settings table lists counted found are))
+      rw (p, n, same, v) (All-weaker (AreReady table.schema table.count) (AreScans table.schema table.count) (λ s k. k.are) counted
+      (all_ready settings table lists counted found are))
 
   module _ (union : Option Candidate) (is : union ≡ union_of settings schema count slice) where
     union_same : union ≡ union_of settings table.schema table.count counted
     union_same = is ∙ (λ i. union_of settings ((p ∙ ap (λ (m : Meaning). m.schema) same) i) ((n ∙ ap (λ (m : Meaning). m.count) same) i) (v i))
 
-    told_when : (o : Option Indexed) → table.told ≡ o → IfSome o (λ t. union ≡ union_of settings table.schema table.count (counted_lists settings table t lists))
+    told_when : (o : Option Indexed) → table.told ≡ o
+        → IfSome o (λ t. union ≡ union_of settings table.schema table.count (counted_lists settings table t lists))
     told_when None e = tt
     told_when (Some t) e = union_same ∙ ap (union_of settings table.schema table.count) (lists_told settings table t lists counted e are)
 
@@ -104,7 +117,8 @@ module _ (settings : Settings) (q : Question) (table : Meaning) (cond : Tree) wh
   abbrev ranged : List (List Ranged)
   ranged = ranged_lists settings q table.schema cond
 
-  module _ (schema : Schema) (p : schema ≡ table.schema) (o : Option (List (List Scan))) (lists : List (List Scan)) (f : o ≡ found_where q schema (ranged_lists settings q schema cond))
+  module _ (schema : Schema) (p : schema ≡ table.schema) (o : Option (List (List Scan))) (lists : List (List Scan))
+      (f : o ≡ found_where q schema (ranged_lists settings q schema cond))
       (is : o ≡ Some lists) where
     e : o ≡ found_where q table.schema ranged
     e = f ∙ (λ i. found_where q (p i) (ranged_lists settings q (p i) cond))
@@ -120,11 +134,14 @@ module _ (settings : Settings) (q : Question) (table : Meaning) (cond : Tree) wh
     pub all_found : IsSchema table.schema → All (AreFound table.schema) lists
     all_found limits = subst (All (AreFound table.schema)) (sym is_so.1) (lists_are table.schema settings q 1 (disjuncts_of cond) limits)
 
-    pub joined_told : (union : Option Candidate) → IfSome table.told (λ t. union ≡ union_of settings table.schema table.count (counted_lists settings table t lists))
+    pub joined_told : (union : Option Candidate)
+        → IfSome table.told (λ t. union ≡ union_of settings table.schema table.count (counted_lists settings table t lists))
         → IfSome table.told (λ t. option_to_list union ≡ unions_at settings q table t ranged)
     joined_told union h =
-        if_weaker (λ t. union ≡ union_of settings table.schema table.count (counted_lists settings table t lists)) (λ t. option_to_list union ≡ unions_at settings q table t ranged) (λ t k.
-        ap option_to_list (k ∙ ap (union_of settings table.schema table.count) (ap (counted_lists settings table t) is_so.1 ∙ lists_counted settings table t 1 ranged))
+        if_weaker (λ t. union ≡ union_of settings table.schema table.count (counted_lists settings table t lists))
+        (λ t. option_to_list union ≡ unions_at settings q table t ranged) (λ t k.
+        ap option_to_list (k ∙ ap (union_of settings table.schema table.count) (ap (counted_lists settings table t) is_so.1
+        ∙ lists_counted settings table t 1 ranged))
         ∙ sym (ap (λ (b : Bool). if b then option_to_list (union_at settings table t ranged) else []) is_so.0)) table.told h
 
     pub joined_seeks : (a b : Counts) → b ≡ with_seeks (sum_by (scan_seeks settings) lists) a → b ≡ with_seeks (seeks_at settings q table.schema ranged) a
@@ -132,13 +149,15 @@ module _ (settings : Settings) (q : Question) (table : Meaning) (cond : Tree) wh
         h ∙ ap (λ k. with_seeks k a) (ap (sum_by (scan_seeks settings)) is_so.1 ∙ seeks_lists settings 1 ranged
         ∙ sym (ap (λ (c : Bool). if c then sum_by (seeks_of settings) ranged else 0) is_so.0))
 
-  module _ (schema : Schema) (p : schema ≡ table.schema) (o : Option (List (List Scan))) (f : o ≡ found_where q schema (ranged_lists settings q schema cond)) (is : o ≡ None) where
+  module _ (schema : Schema) (p : schema ≡ table.schema) (o : Option (List (List Scan)))
+      (f : o ≡ found_where q schema (ranged_lists settings q schema cond)) (is : o ≡ None) where
     isnt : is_considered q table.schema ranged ≡ false
     isnt = found_none q table.schema ranged o (f ∙ (λ i. found_where q (p i) (ranged_lists settings q (p i) cond))) is
 
     pub none_told : IfSome table.told (λ t. [] ≡ unions_at settings q table t ranged)
     none_told =
-        if_any (λ t. [] ≡ unions_at settings q table t ranged) (λ t. sym (ap (λ (b : Bool). if b then option_to_list (union_at settings table t ranged) else []) isnt)) table.told
+        if_any (λ t. [] ≡ unions_at settings q table t ranged)
+        (λ t. sym (ap (λ (b : Bool). if b then option_to_list (union_at settings table t ranged) else []) isnt)) table.told
 
     pub none_seeks : (a : Counts) → a ≡ with_seeks (seeks_at settings q table.schema ranged) a
     none_seeks a =
@@ -147,17 +166,20 @@ module _ (settings : Settings) (q : Question) (table : Meaning) (cond : Tree) wh
   -- ---- a conjunct, a disjunction or not
 
   module _ (is : is_disjunction cond ≡ true) where
-    pub conjunct_told : (list : List Candidate) → IfSome table.told (λ t. list ≡ unions_at settings q table t ranged) → IfSome table.told (λ t. list ≡ unions_by settings q table t cond)
+    pub conjunct_told : (list : List Candidate) → IfSome table.told (λ t. list ≡ unions_at settings q table t ranged)
+        → IfSome table.told (λ t. list ≡ unions_by settings q table t cond)
     conjunct_told list h =
         if_weaker (λ t. list ≡ unions_at settings q table t ranged) (λ t. list ≡ unions_by settings q table t cond)
         (λ t k. k ∙ sym (ap (λ (b : Bool). if b then unions_at settings q table t ranged else []) is)) table.told h
 
-    pub conjunct_seeks : (a b : Counts) → b ≡ with_seeks (seeks_at settings q table.schema ranged) a → b ≡ with_seeks (seeks_by settings q table.schema cond) a
+    pub conjunct_seeks : (a b : Counts) → b ≡ with_seeks (seeks_at settings q table.schema ranged) a
+        → b ≡ with_seeks (seeks_by settings q table.schema cond) a
     conjunct_seeks a b h = h ∙ ap (λ k. with_seeks k a) (sym (ap (λ (c : Bool). if c then seeks_at settings q table.schema ranged else 0) is))
 
   module _ (is : is_disjunction cond ≡ false) where
     pub other_told : IfSome table.told (λ t. [] ≡ unions_by settings q table t cond)
-    other_told = if_any (λ t. [] ≡ unions_by settings q table t cond) (λ t. sym (ap (λ (b : Bool). if b then unions_at settings q table t ranged else []) is)) table.told
+    other_told = if_any (λ t. [] ≡ unions_by settings q table t cond)
+        (λ t. sym (ap (λ (b : Bool). if b then unions_at settings q table t ranged else []) is)) table.told
 
     pub other_seeks : (a : Counts) → a ≡ with_seeks (seeks_by settings q table.schema cond) a
     other_seeks a = sym (with_seeks-zero a) ∙ ap (λ k. with_seeks k a) (sym (ap (λ (c : Bool). if c then seeks_at settings q table.schema ranged else 0) is))
@@ -169,14 +191,16 @@ module _ (settings : Settings) (q : Question) (table : Meaning) where
   all_open = filter (is_considered q table.schema) (map (ranged_lists settings q table.schema) (filter is_disjunction (conjuncts_of q.cond)))
 
   module _ (asked : asks_unions settings ≡ true) (trees : List Tree) (are : trees ≡ conjuncts_of q.cond) where
-    pub all_told : (list : List Candidate) → IfSome table.told (λ t. list ≡ flat_map (unions_by settings q table t) trees) → IfSome table.told (λ t. list ≡ unions settings q table t)
+    pub all_told : (list : List Candidate) → IfSome table.told (λ t. list ≡ flat_map (unions_by settings q table t) trees)
+        → IfSome table.told (λ t. list ≡ unions settings q table t)
     all_told list h =
         if_weaker (λ t. list ≡ flat_map (unions_by settings q table t) trees) (λ t. list ≡ unions settings q table t) (λ t k.
         k ∙ ap (flat_map (unions_by settings q table t)) are
         ∙ gathered is_disjunction (ranged_lists settings q table.schema) (is_considered q table.schema) (union_at settings table t) (conjuncts_of q.cond)
         ∙ sym (ap (λ (b : Bool). if b then filter_map (union_at settings table t) all_open else []) asked)) table.told h
 
-    pub all_seeks : (a b : Counts) → b ≡ with_seeks (sum_by (seeks_by settings q table.schema) trees) a → b ≡ with_seeks (merge_seeks settings q table.schema) a
+    pub all_seeks : (a b : Counts) → b ≡ with_seeks (sum_by (seeks_by settings q table.schema) trees) a
+        → b ≡ with_seeks (merge_seeks settings q table.schema) a
     all_seeks a b h =
         h ∙ ap (λ k. with_seeks k a) (ap (sum_by (seeks_by settings q table.schema)) are
         ∙ sum_gathered is_disjunction (ranged_lists settings q table.schema) (is_considered q table.schema) (sum_by (seeks_of settings)) (conjuncts_of q.cond)
@@ -185,7 +209,9 @@ module _ (settings : Settings) (q : Question) (table : Meaning) where
   module _ (asked : asks_unions settings ≡ false) where
     pub unasked_told : (list : List Candidate) → list ≡ [] → IfSome table.told (λ t. list ≡ unions settings q table t)
     unasked_told list none =
-        if_any (λ t. list ≡ unions settings q table t) (λ t. none ∙ sym (ap (λ (b : Bool). if b then filter_map (union_at settings table t) all_open else []) asked)) table.told
+        if_any (λ t. list ≡ unions settings q table t) (λ t. none
+        ∙ sym (ap (λ (b : Bool). if b then filter_map (union_at settings table t) all_open else []) asked)) table.told
 
     pub unasked_seeks : (a : Counts) → a ≡ with_seeks (merge_seeks settings q table.schema) a
-    unasked_seeks a = sym (with_seeks-zero a) ∙ ap (λ k. with_seeks k a) (sym (ap (λ (c : Bool). if c then sum_by (sum_by (seeks_of settings)) all_open else 0) asked))
+    unasked_seeks a = sym (with_seeks-zero a) ∙ ap (λ k. with_seeks k a)
+        (sym (ap (λ (c : Bool). if c then sum_by (sum_by (seeks_of settings)) all_open else 0) asked))

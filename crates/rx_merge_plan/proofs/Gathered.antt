@@ -13,7 +13,8 @@ module _ {A B : Type 0} (p : A → Bool) (f : A → B) (q : B → Bool) where
     last None rest more e = e
     last (Some y) rest more e = ap (λ l. y ∷ l) e
 
-    passed : (c : Bool) (y : B) (ys : List B) (rest : List C) → rest ≡ filter_map h ys → (if c then option_to_list (h y) else []) ++ rest ≡ filter_map h (cond c (y ∷ ys) ys)
+    passed : (c : Bool) (y : B) (ys : List B) (rest : List C) → rest ≡ filter_map h ys
+        → (if c then option_to_list (h y) else []) ++ rest ≡ filter_map h (cond c (y ∷ ys) ys)
     passed true y ys rest e = last (h y) rest (filter_map h ys) e
     passed false y ys rest e = e
 
@@ -23,7 +24,8 @@ module _ {A B : Type 0} (p : A → Bool) (f : A → B) (q : B → Bool) where
     picked false x xs rest e = e
 
     -- what each item gives that passes both tests
-    pub gathered : (xs : List A) → flat_map (λ x. if p x then (if q (f x) then option_to_list (h (f x)) else []) else []) xs ≡ filter_map h (filter q (map f (filter p xs)))
+    pub gathered : (xs : List A) → flat_map (λ x. if p x then (if q (f x) then option_to_list (h (f x)) else []) else []) xs
+        ≡ filter_map h (filter q (map f (filter p xs)))
     gathered [] = refl
     gathered (x ∷ xs) = picked (p x) x (filter p xs) (flat_map (λ y. if p y then (if q (f y) then option_to_list (h (f y)) else []) else []) xs) (gathered xs)
 
@@ -32,7 +34,8 @@ module _ {A B : Type 0} (p : A → Bool) (f : A → B) (q : B → Bool) where
     sum_passed true y ys = sym (sum_by-cons g y ys)
     sum_passed false y ys = omega arith
 
-    sum_picked : (b : Bool) (x : A) (xs : List A) → (if b then (if q (f x) then g (f x) else 0) else 0) + sum_by g (filter q (map f xs)) ≡ sum_by g (filter q (map f (cond b (x ∷ xs) xs)))
+    sum_picked : (b : Bool) (x : A) (xs : List A) → (if b then (if q (f x) then g (f x) else 0) else 0) + sum_by g (filter q (map f xs))
+        ≡ sum_by g (filter q (map f (cond b (x ∷ xs) xs)))
     sum_picked true x xs = sum_passed (q (f x)) (f x) (filter q (map f xs))
     sum_picked false x xs = omega arith
 

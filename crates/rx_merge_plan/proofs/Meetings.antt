@@ -25,7 +25,8 @@ use Rattle.rx_merge_plan.proofs.Primary.{counted_are}
 
 module _ (settings : Settings) (q : Question) (table : Meaning) where
   -- the scans of range scans are those of a condition of its own, after their ranges were counted
-  counted_in : (rs : List Ranged) (cs : List Candidate) → AreRangeScans settings q table rs cs → AreCounted settings table (map (found_scan 1) rs) (scans_in cs)
+  counted_in : (rs : List Ranged) (cs : List Candidate) → AreRangeScans settings q table rs cs
+      → AreCounted settings table (map (found_scan 1) rs) (scans_in cs)
   counted_in [] [] h = tt
   counted_in [] (c ∷ cs) h = absurd h
   counted_in (r ∷ rs) [] h = absurd h
@@ -34,12 +35,14 @@ module _ (settings : Settings) (q : Question) (table : Meaning) where
       subst (λ (l : List Scan). AreCounted settings table (map (found_scan 1) (r ∷ rs)) (l ++ scans_in cs)) (sym one)
       (record { is = refl; within = h.0.within; estimate = h.0.estimate }, counted_in rs cs h.1)
 
-  when : (o : Option Indexed) → table.told ≡ o → (list : List Candidate) (f : Indexed → List Candidate) → ((t : Indexed) → table.told ≡ Some t → list ≡ f t) → IfSome o (λ t. list ≡ f t)
+  when : (o : Option Indexed) → table.told ≡ o → (list : List Candidate) (f : Indexed → List Candidate) → ((t : Indexed) → table.told ≡ Some t → list ≡ f t)
+      → IfSome o (λ t. list ≡ f t)
   when None e list f h = tt
   when (Some t) e list f h = h t e
 
   -- none are asked for
-  pub not_asked : (list : List Candidate) → asks_intersections settings ≡ false → list ≡ [] → IfSome table.told (λ t. list ≡ intersections settings q table t (known_by settings q table.schema q.cond))
+  pub not_asked : (list : List Candidate) → asks_intersections settings ≡ false → list ≡ []
+      → IfSome table.told (λ t. list ≡ intersections settings q table t (known_by settings q table.schema q.cond))
   not_asked list asked none =
       when table.told refl list (λ t. intersections settings q table t (known_by settings q table.schema q.cond)) (λ t e.
       none ∙ sym (ap (λ (b : Bool). if b then intersections_at settings q table t (ranged_by settings q table.schema q.cond) else []) asked))
@@ -47,15 +50,18 @@ module _ (settings : Settings) (q : Question) (table : Meaning) where
   module _ (plan : OrdinaryPlan) (is : IsOrdinary settings q table plan) where
     counted : AreCounted settings table (map (found_scan 1) (ranged_by settings q table.schema q.cond)) (scans_in plan.ranges)
     counted =
-        subst (λ rs. AreCounted settings table (map (found_scan 1) rs) (scans_in plan.ranges)) (ap ranged_in (known_same settings q table.schema is.known is.are_known))
+        subst (λ rs. AreCounted settings table (map (found_scan 1) rs) (scans_in plan.ranges))
+        (ap ranged_in (known_same settings q table.schema is.known is.are_known))
         (counted_in (ranged_in is.known) plan.ranges is.ranges)
 
     -- they can be merged
     ranges_ready : IsMeaning table → AreReady table.schema table.count (scans_in plan.ranges)
     ranges_ready sound =
-        ready settings table (map (found_scan 1) (ranged_by settings q table.schema q.cond)) (scans_in plan.ranges) (found_are table.schema settings q q.cond 1 sound.limits) counted
+        ready settings table (map (found_scan 1) (ranged_by settings q table.schema q.cond)) (scans_in plan.ranges)
+        (found_are table.schema settings q q.cond 1 sound.limits) counted
 
-    module _ (schema : Schema) (count : ℕ) (ranges : List Candidate) (p : schema ≡ table.schema) (n : count ≡ table.count) (r : ranges ≡ plan.ranges) (sound : IsMeaning table) where
+    module _ (schema : Schema) (count : ℕ) (ranges : List Candidate) (p : schema ≡ table.schema) (n : count ≡ table.count) (r : ranges ≡ plan.ranges)
+        (sound : IsMeaning table) where
       -- read of the table
       pub ranges_are : AreScans schema count (scans_in ranges)
       ranges_are = rw (p, n, r) (ranges_ready sound).are
@@ -65,20 +71,24 @@ module _ (settings : Settings) (q : Question) (table : Meaning) where
         met_by = met ∙ (λ i. intersections_among true (columns_named q (p i)) (p i) (n i) (scans_in (r i)))
 
         -- and their intersections are those of the question
-        pub met_told : asks_intersections settings ≡ true → IfSome table.told (λ t. list ≡ intersections settings q table t (known_by settings q table.schema q.cond))
+        pub met_told : asks_intersections settings ≡ true
+            → IfSome table.told (λ t. list ≡ intersections settings q table t (known_by settings q table.schema q.cond))
         met_told asked =
             when table.told refl list (λ t. intersections settings q table t (known_by settings q table.schema q.cond)) (λ t e.
             met_by
-            ∙ ap (intersections_among true (columns_named q table.schema) table.schema table.count) (found_told settings table t 1 (ranged_by settings q table.schema q.cond) (scans_in plan.ranges) e counted)
+            ∙ ap (intersections_among true (columns_named q table.schema) table.schema table.count)
+            (found_told settings table t 1 (ranged_by settings q table.schema q.cond) (scans_in plan.ranges) e counted)
             ∙ sym (ap (λ (b : Bool). if b then intersections_at settings q table t (ranged_by settings q table.schema q.cond) else []) asked))
 
         pub met_run : All (CanMerge table.schema) list
         met_run =
             let h = ranges_ready sound in
-            subst (All (CanMerge table.schema)) (sym met_by) (intersections_run table.schema table.count (scans_in plan.ranges) h.are h.each true (columns_named q table.schema))
+            subst (All (CanMerge table.schema)) (sym met_by) (intersections_run table.schema table.count (scans_in plan.ranges)
+            h.are h.each true (columns_named q table.schema))
 
         -- and keep the rules
         pub met_rules : All (IsIntersection table.schema) list
         met_rules =
-            subst (All (IsIntersection table.schema)) (sym met_by) (intersections_are true (columns_named q table.schema) table.schema table.count (scans_in plan.ranges)
+            subst (All (IsIntersection table.schema)) (sym met_by)
+            (intersections_are true (columns_named q table.schema) table.schema table.count (scans_in plan.ranges)
             (counted_are settings table q q.cond 1 (scans_in plan.ranges) sound.limits counted))

@@ -51,28 +51,34 @@ as_few (k ∷ known) = omega (arith, length-append (ranged_as k.index k.answer) 
 
 module _ (settings : Settings) (q : Question) (schema : Schema) where
   module _ (cond : Tree) where
-    few_answer : (index : ℕ) (a : Answer) → index < length schema.indexes → IsAnswer schema.columns (parts_in schema index) (items_limit settings.memory) cond a
+    few_answer : (index : ℕ) (a : Answer) → index < length schema.indexes
+        → IsAnswer schema.columns (parts_in schema index) (items_limit settings.memory) cond a
         → AllByRecursion (IsNarrowed schema) (ranged_as index (Some a))
     few_answer index no_parts there h = tt
     few_answer index whole there h = tt
     few_answer index (ranges p list) there h = (
       record {
         there = there;
-        few = few_ranges schema.columns (parts_in schema index) (items_limit settings.memory) 1000000 cond p list (limit_within (nat_eq settings.memory 0) (settings.memory / 230)) (omega arith) h;
+        few = few_ranges schema.columns (parts_in schema index) (items_limit settings.memory) 1000000 cond p list
+            (limit_within (nat_eq settings.memory 0) (settings.memory / 230)) (omega arith) h;
       },
       tt,
     )
 
     few_at : (index : ℕ) (b : Bool) → index < length schema.indexes
-        → AllByRecursion (IsNarrowed schema) (ranged_as index (if b then Some (answer_for schema.columns (parts_in schema index) (items_limit settings.memory) cond) else None))
+        → AllByRecursion (IsNarrowed schema)
+        (ranged_as index (if b then Some (answer_for schema.columns (parts_in schema index) (items_limit settings.memory) cond) else None))
     few_at index true there =
-        few_answer index (answer_for schema.columns (parts_in schema index) (items_limit settings.memory) cond) there (given_is_answer schema.columns (parts_in schema index) (items_limit settings.memory) cond)
+        few_answer index (answer_for schema.columns (parts_in schema index) (items_limit settings.memory) cond) there
+        (given_is_answer schema.columns (parts_in schema index) (items_limit settings.memory) cond)
     few_at index false there = tt
 
-    each_few : (ns : List ℕ) → AllByRecursion (λ n. n < length schema.indexes) ns → AllByRecursion (IsNarrowed schema) (ranged_in (map (known_at settings q schema cond) ns))
+    each_few : (ns : List ℕ) → AllByRecursion (λ n. n < length schema.indexes) ns
+        → AllByRecursion (IsNarrowed schema) (ranged_in (map (known_at settings q schema cond) ns))
     each_few [] h = tt
     each_few (n ∷ ns) h =
-        each_append (IsNarrowed schema) (ranged_as n (known_at settings q schema cond n).answer) (ranged_in (map (known_at settings q schema cond) ns)) (few_at n (is_usable q n) h.0) (each_few ns h.1)
+        each_append (IsNarrowed schema) (ranged_as n (known_at settings q schema cond n).answer) (ranged_in (map (known_at settings q schema cond) ns))
+        (few_at n (is_usable q n) h.0) (each_few ns h.1)
 
     -- each index that a condition narrows is there, and has few ranges
     pub all_narrowed : AllByRecursion (IsNarrowed schema) (ranged_by settings q schema cond)
@@ -94,7 +100,8 @@ module _ (settings : Settings) (q : Question) (schema : Schema) where
   numbers_known [] = refl
   numbers_known (n ∷ ns) = ap (λ l. n ∷ l) (numbers_known ns)
 
-  known_when : (n : ℕ) (b : Bool) → is_usable q n ≡ b → IsKnownAs settings q schema n (if b then Some (answer_for schema.columns (parts_in schema n) (items_limit settings.memory) q.cond) else None)
+  known_when : (n : ℕ) (b : Bool) → is_usable q n ≡ b
+      → IsKnownAs settings q schema n (if b then Some (answer_for schema.columns (parts_in schema n) (items_limit settings.memory) q.cond) else None)
   known_when n true e = (e, given_is_answer schema.columns (parts_in schema n) (items_limit settings.memory) q.cond)
   known_when n false e = e
 

@@ -44,7 +44,8 @@ module _ (test : ℕ → Bool) where
 pub too_many : (q : Question) (schema : Schema) (lists : List (List Ranged)) → has_few_disjuncts lists ≡ false → None ≡ found_where q schema lists
 too_many q schema lists e = sym (ap (λ b. if b && is_open q schema lists then Some (found_lists 1 lists) else None) e)
 
-when_both : (a b : Bool) (lists : List (List Ranged)) → a ≡ true → b ≡ true → Some (found_lists 1 lists) ≡ (if a && b then Some (found_lists 1 lists) else None)
+when_both : (a b : Bool) (lists : List (List Ranged)) → a ≡ true → b ≡ true
+    → Some (found_lists 1 lists) ≡ (if a && b then Some (found_lists 1 lists) else None)
 when_both a b lists e f = sym (ap₂ (λ x y. if x && y then Some (found_lists 1 lists) else None) e f)
 
 when_second : (a b : Bool) (lists : List (List Ranged)) → b ≡ false → None ≡ (if a && b then Some (found_lists 1 lists) else None)
@@ -52,27 +53,33 @@ when_second true b lists e = sym (ap (λ y. if y then Some (found_lists 1 lists)
 when_second false b lists e = refl
 
 -- it isn't open
-pub not_open : (q : Question) (schema : Schema) (lists : List (List Ranged)) → are_open q schema (found_lists 1 lists) ≡ false → None ≡ found_where q schema lists
+pub not_open : (q : Question) (schema : Schema) (lists : List (List Ranged)) → are_open q schema (found_lists 1 lists) ≡ false
+    → None ≡ found_where q schema lists
 not_open q schema lists e = when_second (has_few_disjuncts lists) (is_open q schema lists) lists (sym (open_same q schema lists) ∙ e)
 
 -- it is considered
-pub considered : (q : Question) (schema : Schema) (lists : List (List Ranged)) → has_few_disjuncts lists ≡ true → are_open q schema (found_lists 1 lists) ≡ true
+pub considered : (q : Question) (schema : Schema) (lists : List (List Ranged)) → has_few_disjuncts lists ≡ true
+    → are_open q schema (found_lists 1 lists) ≡ true
     → Some (found_lists 1 lists) ≡ found_where q schema lists
 considered q schema lists few e = when_both (has_few_disjuncts lists) (is_open q schema lists) lists few (sym (open_same q schema lists) ∙ e)
 
-where_some : (b : Bool) (lists : List (List Ranged)) (o : Option (List (List Scan))) (found : List (List Scan)) → o ≡ (if b then Some (found_lists 1 lists) else None) → o ≡ Some found
+where_some : (b : Bool) (lists : List (List Ranged)) (o : Option (List (List Scan))) (found : List (List Scan))
+    → o ≡ (if b then Some (found_lists 1 lists) else None) → o ≡ Some found
     → (b ≡ true) × (found ≡ found_lists 1 lists)
 where_some true lists o found e is = (refl, cc (e, is))
 where_some false lists o found e is = absurd (cc (e, is))
 
 -- something is found of one that is considered alone
-pub found_some : (q : Question) (schema : Schema) (lists : List (List Ranged)) (o : Option (List (List Scan))) (found : List (List Scan)) → o ≡ found_where q schema lists → o ≡ Some found
+pub found_some : (q : Question) (schema : Schema) (lists : List (List Ranged)) (o : Option (List (List Scan))) (found : List (List Scan))
+    → o ≡ found_where q schema lists → o ≡ Some found
     → (is_considered q schema lists ≡ true) × (found ≡ found_lists 1 lists)
 found_some q schema lists o found e is = where_some (is_considered q schema lists) lists o found e is
 
-where_none : (b : Bool) (lists : List (List Ranged)) (o : Option (List (List Scan))) → o ≡ (if b then Some (found_lists 1 lists) else None) → o ≡ None → b ≡ false
+where_none : (b : Bool) (lists : List (List Ranged)) (o : Option (List (List Scan))) → o ≡ (if b then Some (found_lists 1 lists) else None) → o ≡ None
+    → b ≡ false
 where_none true lists o e is = absurd (cc (e, is))
 where_none false lists o e is = refl
 
-pub found_none : (q : Question) (schema : Schema) (lists : List (List Ranged)) (o : Option (List (List Scan))) → o ≡ found_where q schema lists → o ≡ None → is_considered q schema lists ≡ false
+pub found_none : (q : Question) (schema : Schema) (lists : List (List Ranged)) (o : Option (List (List Scan))) → o ≡ found_where q schema lists → o ≡ None
+    → is_considered q schema lists ≡ false
 found_none q schema lists o e is = where_none (is_considered q schema lists) lists o e is

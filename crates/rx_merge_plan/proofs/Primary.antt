@@ -1,5 +1,5 @@
 -- Of the scans that a condition gives, each has the role of a scan, and one at most is of the primary key.
-use Rattle.std.proofs.Common.{◌≡◌, ◌+◌, ◌≤◌, ℕ, zero, suc, Bool, true, false, List, [], ◌∷◌, ◌++◌, length, map, drop, slice_get, Option, Some, None, All, cond, refl, ap, ap₂, sym, ◌∙◌, arith}
+use Rattle.std.proofs.Common.{◌≡◌, ◌+◌, ◌≤◌, ℕ, zero, suc, Bool, true, false, List, [], ◌∷◌, ◌++◌, length, map, drop, slice_get, Option, Some, None, All, cond, refl, ap, ap₂, ◌∙◌, arith}
 use Rattle.std.specs.List.{filter, range_with_len, AllByRecursion}
 use Rattle.std.proofs.lemmas.List.Elements.{All-from_recursion, recursion_from_All}
 use Rattle.rx_value.specs.declared.shapes.Index.{Index}
@@ -92,7 +92,8 @@ module _ (settings : Settings) (table : Meaning) where
   same_indexes (x ∷ xs) [] h = absurd h
   same_indexes (x ∷ xs) (y ∷ ys) h = ap₂ (λ n l. n ∷ l) (ap (λ (s : Scan). s.index) h.0.is) (same_indexes xs ys h.1)
 
-  roles : (member : ℕ) (rs : List Ranged) (counted : List Scan) → AreCounted settings table (map (found_scan member) rs) counted → AllByRecursion (λ s. s.role ≡ ScanRole) counted
+  roles : (member : ℕ) (rs : List Ranged) (counted : List Scan) → AreCounted settings table (map (found_scan member) rs) counted
+      → AllByRecursion (λ s. s.role ≡ ScanRole) counted
   roles member [] [] h = tt
   roles member [] (y ∷ ys) h = absurd h
   roles member (r ∷ rs) [] h = absurd h

@@ -46,16 +46,24 @@ module _ (schema : Schema) where
         let ordered = row_ordered schema scans in
         let filters = filters_in schema scans in
         record {
-          few = omega (arith, length-append (take n ordered) filters, length-take n ordered, (ordered_are schema count scans are).few, (filters_are schema count scans are).few);
+          few = omega (
+            arith,
+            length-append (take n ordered) filters,
+            length-take n ordered,
+            (ordered_are schema count scans are).few,
+            (filters_are schema count scans are).few,
+          );
           each = All-append (CanMeet schema) (take n ordered) filters (All-take (CanMeet schema) n ordered (all_ordered (CanMeet schema) schema scans meet))
               (all_filters (CanMeet schema) schema scans as_filters meet);
         }
 
     small_met : (entries : Bool) (columns : List ℕ) → All (λ c. AreSmall schema 1 c.scans) (intersections_among entries columns schema count scans)
     small_met entries columns =
-        All-map (λ (c : Candidate). AreSmall schema 1 c.scans) (intersection_of entries columns schema count (row_ordered schema scans) (filters_in schema scans)) _ (λ k d h. small_front _)
+        All-map (λ (c : Candidate). AreSmall schema 1 c.scans)
+        (intersection_of entries columns schema count (row_ordered schema scans) (filters_in schema scans)) _ (λ k d h. small_front _)
 
-    run_front : (entries : Bool) (columns : List ℕ) (n : ℕ) → CanMerge schema (intersection_of entries columns schema count (row_ordered schema scans) (filters_in schema scans) n)
+    run_front : (entries : Bool) (columns : List ℕ) (n : ℕ) → CanMerge schema
+        (intersection_of entries columns schema count (row_ordered schema scans) (filters_in schema scans) n)
     run_front entries columns n =
         let small = small_front n in
         record { kind = tt; few = omega (arith, small.few); scans = small.each }
@@ -63,14 +71,16 @@ module _ (schema : Schema) where
     -- each intersection
     pub intersections_run : (entries : Bool) (columns : List ℕ) → All (CanMerge schema) (intersections_among entries columns schema count scans)
     intersections_run entries columns =
-        All-map (CanMerge schema) (intersection_of entries columns schema count (row_ordered schema scans) (filters_in schema scans)) _ (λ k d h. run_front entries columns _)
+        All-map (CanMerge schema) (intersection_of entries columns schema count (row_ordered schema scans) (filters_in schema scans)) _
+        (λ k d h. run_front entries columns _)
 
     small_single : (s : Scan) → CanMeet schema s → AreSmall schema 1 (single s).scans
     small_single s k = record { few = omega arith; each = All-cons (CanMeet schema) s [] k (All-nil (CanMeet schema)) }
 
     small_singles : (xs : List Scan) → All (CanMeet schema) xs → All (λ c. AreSmall schema 1 c.scans) (map single xs)
     small_singles xs k =
-        All-map (λ (c : Candidate). AreSmall schema 1 c.scans) single xs (All-weaker (CanMeet schema) (λ s. AreSmall schema 1 (single s).scans) small_single xs k)
+        All-map (λ (c : Candidate). AreSmall schema 1 c.scans) single xs
+        (All-weaker (CanMeet schema) (λ s. AreSmall schema 1 (single s).scans) small_single xs k)
 
     small_members : (intersect : Bool) → All (λ c. AreSmall schema 1 c.scans) (members_among intersect schema count scans)
     small_members intersect =
@@ -78,7 +88,8 @@ module _ (schema : Schema) where
         let primary = filter (λ (s : Scan). is_primary schema s.index) scans in
         let first = take 1 (row_ordered schema scans) in
         All-append P (map single primary) _ (small_singles primary (All-filter (λ (s : Scan). is_primary schema s.index) (CanMeet schema) scans meet))
-        (All-append P (map single first) _ (small_singles first (All-take (CanMeet schema) 1 (row_ordered schema scans) (all_ordered (CanMeet schema) schema scans meet))) (met intersect))
+        (All-append P (map single first) _ (small_singles first
+        (All-take (CanMeet schema) 1 (row_ordered schema scans) (all_ordered (CanMeet schema) schema scans meet))) (met intersect))
       where
         met : (b : Bool) → All (λ c. AreSmall schema 1 c.scans) (if b then intersections_among false [] schema count scans else [])
         met true = small_met false []
@@ -97,9 +108,11 @@ module _ (schema : Schema) where
   -- ---- what each disjunct gives, all together
 
   module _ {B : Type 0} (f : List Scan → Option B) (g : B → List Scan) where
-    all_small : (lists : List (List Scan)) (xs : List B) → all_there (map f lists) ≡ Some xs → AllByRecursion (λ list. IfSome (f list) (λ x. AreSmall schema 1 (g x))) lists
+    all_small : (lists : List (List Scan)) (xs : List B) → all_there (map f lists) ≡ Some xs
+        → AllByRecursion (λ list. IfSome (f list) (λ x. AreSmall schema 1 (g x))) lists
         → AreSmall schema (length lists) (flat_map g xs)
-    all_small [] xs e h = let none : [] ≡ xs = cc e in subst (λ (zs : List B). AreSmall schema 0 (flat_map g zs)) none (record { few = omega arith; each = All-nil (CanMeet schema) })
+    all_small [] xs e h = let none : [] ≡ xs = cc e in subst (λ (zs : List B). AreSmall schema 0 (flat_map g zs)) none
+        (record { few = omega arith; each = All-nil (CanMeet schema) })
     all_small (list ∷ lists) xs e h =
         let s = split_there (f list) (map f lists) xs e in
         let here = subst (λ (o : Option B). IfSome o (λ x. AreSmall schema 1 (g x))) s.2 h.0 in
@@ -123,7 +136,8 @@ module _ (schema : Schema) where
     each_cheapest [] h = tt
     each_cheapest (x ∷ xs) h = (small_cheapest count x h.0.are h.0.each, each_cheapest xs h.1)
 
-    of_union : (intersect : Bool) (o : Option (List Candidate)) → all_there (map (member_of intersect schema count) lists) ≡ o → IfSome (option_map union o) (CanMerge schema)
+    of_union : (intersect : Bool) (o : Option (List Candidate)) → all_there (map (member_of intersect schema count) lists) ≡ o
+        → IfSome (option_map union o) (CanMerge schema)
     of_union intersect None e = tt
     of_union intersect (Some ms) e =
         let small = all_small (member_of intersect schema count) (λ m. m.scans) lists ms e (each_member intersect lists ready) in
@@ -138,6 +152,7 @@ module _ (schema : Schema) where
     -- the union, where there is one
     pub union_runs : (settings : Settings) → IfSome (union_of settings schema count lists) (CanMerge schema)
     union_runs settings =
-        if_or (CanMerge schema) (if settings.union_on then union_among settings.intersection schema count lists else None) (if settings.sort_union then sort_union_among lists else None)
+        if_or (CanMerge schema) (if settings.union_on then union_among settings.intersection schema count lists else None)
+        (if settings.sort_union then sort_union_among lists else None)
         (if_asked (CanMerge schema) settings.union_on (union_among settings.intersection schema count lists) (of_union settings.intersection _ refl))
         (if_asked (CanMerge schema) settings.sort_union (sort_union_among lists) (of_sort_union _ refl))

@@ -31,10 +31,20 @@ module _ {R C T : Type 0} (now : R → C) (tree : C → T) (xs : List R) (i : �
         ∙ ap (λ y. trees ++ tree (now y) ∷ []) (sym is)
 
     -- the scans of one disjunct more
-    pub lists_more : (f : T → List Ranged) (member : ℕ) (lists new : List (List Scan)) (scans : List Scan) → member ≡ 1 + i → lists ≡ found_lists 1 (map f trees)
+    pub lists_more : (f : T → List Ranged) (member : ℕ) (lists new : List (List Scan)) (scans : List Scan) → member ≡ 1 + i
+        → lists ≡ found_lists 1 (map f trees)
         → scans ≡ map (found_scan member) (f (tree (now x))) → new ≡ lists ++ scans ∷ [] → new ≡ found_lists 1 (map f (map tree (map now (take (i + 1) xs))))
     lists_more f member lists new scans place e g pushed =
-        let many : member ≡ 1 + length (map f trees) = omega (arith, place, within, length-map trees f, length-map (map now (take i xs)) tree, length-map (take i xs) now, length-take i xs) in
+        let many : member ≡ 1 + length (map f trees) = omega (
+          arith,
+          place,
+          within,
+          length-map trees f,
+          length-map (map now (take i xs)) tree,
+          length-map
+              (take i xs) now,
+          length-take i xs,
+        ) in
         pushed
         ∙ ap₂ (λ l s. l ++ s ∷ []) e (g ∙ ap (λ m. map (found_scan m) (f (tree (now x)))) many)
         ∙ sym (found_push 1 (map f trees) (f (tree (now x))))
@@ -49,8 +59,10 @@ module _ {R C T : Type 0} (now : R → C) (tree : C → T) (xs : List R) (i : �
         ∙ sym (flat_map-append f trees (tree (now x) ∷ []))
         ∙ ap (flat_map f) (sym trees_more)
 
-    pub told_more : (f : Indexed → T → List Candidate) (o : Option Indexed) (list new : List Candidate) (u : Option Candidate) → IfSome o (λ t. list ≡ flat_map (f t) trees)
-        → IfSome o (λ t. option_to_list u ≡ f t (tree (now x))) → new ≡ list ++ option_to_list u → IfSome o (λ t. new ≡ flat_map (f t) (map tree (map now (take (i + 1) xs))))
+    pub told_more : (f : Indexed → T → List Candidate) (o : Option Indexed) (list new : List Candidate) (u : Option Candidate)
+        → IfSome o (λ t. list ≡ flat_map (f t) trees)
+        → IfSome o (λ t. option_to_list u ≡ f t (tree (now x))) → new ≡ list ++ option_to_list u
+        → IfSome o (λ t. new ≡ flat_map (f t) (map tree (map now (take (i + 1) xs))))
     told_more f None list new u e g pushed = tt
     told_more f (Some t) list new u e g pushed = gives_more (f t) list new (option_to_list u) e g pushed
 

@@ -61,7 +61,7 @@ is_open q schema lists = not (list_any (λ index. is_usable q index && list_all 
 abbrev pub has_few_disjuncts : List (List Ranged) → Bool
 has_few_disjuncts lists = nat_le (length lists) most_disjuncts
 
--- A disjunction is considered: it is open and has few disjuncts. One of over a million, that is, of more than 1,048,576, is taken as not open.
+-- A disjunction is considered: it is open and has few disjuncts. One of more than 1,048,576, for which a script has too few bytes, is taken as not open.
 abbrev pub is_considered : Question → Schema → List (List Ranged) → Bool
 is_considered q schema lists = has_few_disjuncts lists && is_open q schema lists
 

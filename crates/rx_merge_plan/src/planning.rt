@@ -20,8 +20,8 @@ use std::alloc::Global;
 /// The index merges of a query by its ordinary plan, each where the settings ask for it: the intersections of the scans that
 /// its condition gives on the indexes, and for each disjunction among its conjuncts that no usable index answers alone the
 /// union of the scans that its disjuncts give (MySQL manual, "Index Merge Optimization"). The ranges of those disjuncts are
-/// counted by seeks, as the ordinary plan counts; nothing else is read. A disjunction of more than 1,048,576 disjuncts gives
-/// no union.
+/// counted by seeks, as the ordinary plan counts; nothing else is read. A disjunction of more than 1,048,576 disjuncts, for which
+/// a script has too few bytes, gives no union.
 ///
 /// # Errors
 ///

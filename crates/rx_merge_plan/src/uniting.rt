@@ -160,9 +160,11 @@ fn plan_conjuncts<T: Table>(
     table: &mut T,
     conds: &CondRefs<'_>,
 ) -> Result<CandidateList, TableFault>
-    ensures told { IfOk result (λ list. IfSome (T.means table.old).told (λ t. list ≡ flat_map (unions_by settings.now (question_of query.now) (T.means table.old) t) (map tree_of conds.now))) }
+    ensures told { IfOk result (λ list. IfSome (T.means table.old).told (λ t. list ≡ flat_map (unions_by settings.now (question_of query.now) (T.means table.old) t)
+        (map tree_of conds.now))) }
     ensures can_run { IfOk result (All (CanMerge (T.means table.old).schema)) }
-    ensures counts { OnOk result ((T.tally table.new).counts ≡ with_seeks (sum_by (seeks_by settings.now (question_of query.now) (T.means table.old).schema) (map tree_of conds.now)) (T.tally table.old).counts) }
+    ensures counts { OnOk result ((T.tally table.new).counts ≡ with_seeks (sum_by (seeks_by settings.now (question_of query.now) (T.means table.old).schema)
+        (map tree_of conds.now)) (T.tally table.old).counts) }
     ensures keeps { OnOk result (Keeps T.means T.tally T.kept T.spent None table.old table.new) }
     ensures cause { IfErr result (λ f. Keeps T.means T.tally T.kept T.spent (Some f) table.old table.new) }
 {

@@ -15,7 +15,8 @@ count_scans-requires g c =
     let table = g.T.Table.means c.args.table.now in
     let P = AreFound table.schema in
     let left : All P (c.in-Some.scans ∷ into_iter_items c.next.new.self) = subst (All P) c.in-Some.ensures.steps.0 c.loop-scans.invariant.left in
-    there_found table (g.T.Table.means c.loop-scans.table) c.in-Some.scans c.loop-scans.invariant.keeps.means_stays (All-head P c.in-Some.scans (into_iter_items c.next.new.self) left)
+    there_found table (g.T.Table.means c.loop-scans.table) c.in-Some.scans c.loop-scans.invariant.keeps.means_stays
+    (All-head P c.in-Some.scans (into_iter_items c.next.new.self) left)
 
 pub loop-scans-preserved : goal.loop-scans-preserved
 loop-scans-preserved g c =
@@ -30,7 +31,8 @@ loop-scans-preserved g c =
       left = All-tail P scans (into_iter_items c.next.new.self) (subst (All P) c.in-Some.ensures.steps.0 here.left);
       are = subst (AllZip R (done ++ scans ∷ [])) (sym c.in-Ok-push.ensures.ok)
           (AllZip-push R done c.loop-scans.list scans c.in-Ok.counted here.are (rw here.keeps.means_stays at c.in-Ok.ensures.are));
-      counts = c.in-Ok.ensures.counts ∙ with_seeks-more (sum_by (scan_seeks settings) done) (scan_seeks settings scans) before (g.T.Table.tally c.loop-scans.table).counts here.counts
+      counts = c.in-Ok.ensures.counts ∙ with_seeks-more (sum_by (scan_seeks settings) done) (scan_seeks settings scans) before
+          (g.T.Table.tally c.loop-scans.table).counts here.counts
           ∙ ap (λ n. with_seeks n before) (sym (sum_by_push (scan_seeks settings) done scans));
       keeps = Keeps-chain g.met.T.Table.kept_chained g.met.T.Table.spent_chained _ _ _ _ here.keeps c.in-Ok.ensures.keeps;
     }

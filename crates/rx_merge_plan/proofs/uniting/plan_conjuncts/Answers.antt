@@ -22,9 +22,11 @@ loop-cond-preserved g c =
     let done : List Tree = map tree_of (map (λ r. r.now) (take i items)) in
     let before = (g.T.Table.tally c.args.table.now).counts in
     record {
-      told = told_more (λ r. r.now) tree_of items i c.cond-item.result c.loop-cond-test.true c.cond-item.is (unions_by settings q table) table.told c.loop-cond.list c.add_union.new.list c.in-Ok.union
+      told = told_more (λ r. r.now) tree_of items i c.cond-item.result c.loop-cond-test.true c.cond-item.is (unions_by settings q table) table.told
+          c.loop-cond.list c.add_union.new.list c.in-Ok.union
           here.told (rw here.keeps.means_stays at c.in-Ok.ensures.told) c.in-Ok-add_union.ensures;
-      can_run = all_more (CanMerge table.schema) c.loop-cond.list c.add_union.new.list c.in-Ok.union here.can_run (rw here.keeps.means_stays at c.in-Ok.ensures.can_run) c.in-Ok-add_union.ensures;
+      can_run = all_more (CanMerge table.schema) c.loop-cond.list c.add_union.new.list c.in-Ok.union here.can_run
+          (rw here.keeps.means_stays at c.in-Ok.ensures.can_run) c.in-Ok-add_union.ensures;
       counts = (rw here.keeps.means_stays at c.in-Ok.ensures.counts)
           ∙ with_seeks-more (sum_by f done) (f (tree_of c.cond-item.result.now)) before (g.T.Table.tally c.loop-cond.table).counts here.counts
           ∙ ap (λ n. with_seeks n before) (sym (sum_more (λ r. r.now) tree_of items i c.cond-item.result c.loop-cond-test.true c.cond-item.is f));
@@ -36,7 +38,8 @@ returns-clause-told g c =
     let table = g.T.Table.means c.args.table.now in
     let f = unions_by c.args.settings.now (question_of c.args.query.now) table in
     subst (λ (trees : List Tree). IfSome table.told (λ t. c.loop-cond.list ≡ flat_map (f t) trees))
-    (trees_all (λ r. r.now) tree_of c.as_slice-cond-items.result.now c.loop-cond.cond-index c.loop-cond-test.false ∙ ap (map tree_of) c.as_slice-cond-items.ensures) c.loop-cond.invariant.told
+    (trees_all (λ r. r.now) tree_of c.as_slice-cond-items.result.now c.loop-cond.cond-index c.loop-cond-test.false
+    ∙ ap (map tree_of) c.as_slice-cond-items.ensures) c.loop-cond.invariant.told
 
 pub returns-clause-counts : goal.returns-clause-counts
 returns-clause-counts g c =
@@ -44,4 +47,5 @@ returns-clause-counts g c =
     let f = seeks_by c.args.settings.now (question_of c.args.query.now) table.schema in
     c.loop-cond.invariant.counts
     ∙ ap (λ (trees : List Tree). with_seeks (sum_by f trees) (g.T.Table.tally c.args.table.now).counts)
-    (trees_all (λ r. r.now) tree_of c.as_slice-cond-items.result.now c.loop-cond.cond-index c.loop-cond-test.false ∙ ap (map tree_of) c.as_slice-cond-items.ensures)
+    (trees_all (λ r. r.now) tree_of c.as_slice-cond-items.result.now c.loop-cond.cond-index c.loop-cond-test.false
+    ∙ ap (map tree_of) c.as_slice-cond-items.ensures)

@@ -5,30 +5,37 @@ use Rattle.rx_merge_plan.proofs.uniting.plan_disjunction.Goals as goal
 
 pub union_by-requires-clause-few : goal.union_by-requires-clause-few
 union_by-requires-clause-few g c =
-    few_found c.args.settings.now (question_of c.args.query.now) (g.T.Table.means c.args.table.now) (tree_of c.args.cond.now) c.shape.result.now c.shape.ensures.value c.in-Ok-Some.field-0
+    few_found c.args.settings.now (question_of c.args.query.now) (g.T.Table.means c.args.table.now) (tree_of c.args.cond.now) c.shape.result.now
+    c.shape.ensures.value c.in-Ok-Some.field-0
     c.in-Ok-Some.lists c.in-Ok-Some.ensures c.in-Ok-Some.field-0-is
 
 pub union_by-requires-clause-found : goal.union_by-requires-clause-found
 union_by-requires-clause-found g c =
-    all_found c.args.settings.now (question_of c.args.query.now) (g.T.Table.means c.args.table.now) (tree_of c.args.cond.now) c.shape.result.now c.shape.ensures.value c.in-Ok-Some.field-0
+    all_found c.args.settings.now (question_of c.args.query.now) (g.T.Table.means c.args.table.now) (tree_of c.args.cond.now) c.shape.result.now
+    c.shape.ensures.value c.in-Ok-Some.field-0
     c.in-Ok-Some.lists c.in-Ok-Some.ensures c.in-Ok-Some.field-0-is c.shape.ensures.sound.limits
 
 pub returns-in-Ok-clause-told : goal.returns-in-Ok-clause-told
 returns-in-Ok-clause-told g c =
-    joined_told c.args.settings.now (question_of c.args.query.now) (g.T.Table.means c.args.table.now) (tree_of c.args.cond.now) c.shape.result.now c.shape.ensures.value c.in-Ok-Some.field-0
+    joined_told c.args.settings.now (question_of c.args.query.now) (g.T.Table.means c.args.table.now) (tree_of c.args.cond.now) c.shape.result.now
+    c.shape.ensures.value c.in-Ok-Some.field-0
     c.in-Ok-Some.lists c.in-Ok-Some.ensures c.in-Ok-Some.field-0-is c.in-Ok.union c.in-Ok.ensures.told
 
 pub returns-in-Ok-clause-counts : goal.returns-in-Ok-clause-counts
 returns-in-Ok-clause-counts g c =
-    joined_seeks c.args.settings.now (question_of c.args.query.now) (g.T.Table.means c.args.table.now) (tree_of c.args.cond.now) c.shape.result.now c.shape.ensures.value c.in-Ok-Some.field-0
-    c.in-Ok-Some.lists c.in-Ok-Some.ensures c.in-Ok-Some.field-0-is (g.T.Table.tally c.args.table.now).counts (g.T.Table.tally c.union_by.new.table).counts c.in-Ok.ensures.counts
+    joined_seeks c.args.settings.now (question_of c.args.query.now) (g.T.Table.means c.args.table.now) (tree_of c.args.cond.now) c.shape.result.now
+    c.shape.ensures.value c.in-Ok-Some.field-0
+    c.in-Ok-Some.lists c.in-Ok-Some.ensures c.in-Ok-Some.field-0-is (g.T.Table.tally c.args.table.now).counts (g.T.Table.tally c.union_by.new.table).counts
+    c.in-Ok.ensures.counts
 
 pub returns-in-Ok-None-clause-told : goal.returns-in-Ok-None-clause-told
 returns-in-Ok-None-clause-told g c =
-    none_told c.args.settings.now (question_of c.args.query.now) (g.T.Table.means c.args.table.now) (tree_of c.args.cond.now) c.shape.result.now c.shape.ensures.value c.in-Ok-None.field-0
+    none_told c.args.settings.now (question_of c.args.query.now) (g.T.Table.means c.args.table.now) (tree_of c.args.cond.now) c.shape.result.now
+    c.shape.ensures.value c.in-Ok-None.field-0
     c.in-Ok-None.ensures c.in-Ok-None.field-0-is
 
 pub returns-in-Ok-None-clause-counts : goal.returns-in-Ok-None-clause-counts
 returns-in-Ok-None-clause-counts g c =
-    none_seeks c.args.settings.now (question_of c.args.query.now) (g.T.Table.means c.args.table.now) (tree_of c.args.cond.now) c.shape.result.now c.shape.ensures.value c.in-Ok-None.field-0
+    none_seeks c.args.settings.now (question_of c.args.query.now) (g.T.Table.means c.args.table.now) (tree_of c.args.cond.now) c.shape.result.now
+    c.shape.ensures.value c.in-Ok-None.field-0
     c.in-Ok-None.ensures c.in-Ok-None.field-0-is (g.T.Table.tally c.args.table.now).counts

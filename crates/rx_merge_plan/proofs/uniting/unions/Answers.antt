@@ -6,18 +6,22 @@ use Rattle.rx_merge_plan.proofs.uniting.unions.Goals as goal
 
 pub returns-then-not-asks_unions-clause-told : goal.returns-then-not-asks_unions-clause-told
 returns-then-not-asks_unions-clause-told g c =
-    unasked_told c.args.settings.now (question_of c.args.query.now) (g.T.Table.means c.args.table.now) (sym c.asks_unions.ensures ∙ c.if-not-asks_unions.true) c.new.result c.new.ensures
+    unasked_told c.args.settings.now (question_of c.args.query.now) (g.T.Table.means c.args.table.now) (sym c.asks_unions.ensures
+    ∙ c.if-not-asks_unions.true) c.new.result c.new.ensures
 
 pub returns-then-not-asks_unions-clause-counts : goal.returns-then-not-asks_unions-clause-counts
 returns-then-not-asks_unions-clause-counts g c =
-    unasked_seeks c.args.settings.now (question_of c.args.query.now) (g.T.Table.means c.args.table.now) (sym c.asks_unions.ensures ∙ c.if-not-asks_unions.true) (g.T.Table.tally c.args.table.now).counts
+    unasked_seeks c.args.settings.now (question_of c.args.query.now) (g.T.Table.means c.args.table.now) (sym c.asks_unions.ensures
+    ∙ c.if-not-asks_unions.true) (g.T.Table.tally c.args.table.now).counts
 
 pub returns-in-Ok-plan_conjuncts-clause-told : goal.returns-in-Ok-plan_conjuncts-clause-told
 returns-in-Ok-plan_conjuncts-clause-told g c =
-    all_told c.args.settings.now (question_of c.args.query.now) (g.T.Table.means c.args.table.now) (sym c.asks_unions.ensures ∙ c.if-not-asks_unions.false) (map tree_of c.in-Ok.conds) c.in-Ok.ensures
+    all_told c.args.settings.now (question_of c.args.query.now) (g.T.Table.means c.args.table.now) (sym c.asks_unions.ensures
+    ∙ c.if-not-asks_unions.false) (map tree_of c.in-Ok.conds) c.in-Ok.ensures
     c.in-Ok-plan_conjuncts.list c.in-Ok-plan_conjuncts.ensures.told
 
 pub returns-in-Ok-plan_conjuncts-clause-counts : goal.returns-in-Ok-plan_conjuncts-clause-counts
 returns-in-Ok-plan_conjuncts-clause-counts g c =
-    all_seeks c.args.settings.now (question_of c.args.query.now) (g.T.Table.means c.args.table.now) (sym c.asks_unions.ensures ∙ c.if-not-asks_unions.false) (map tree_of c.in-Ok.conds) c.in-Ok.ensures
+    all_seeks c.args.settings.now (question_of c.args.query.now) (g.T.Table.means c.args.table.now) (sym c.asks_unions.ensures
+    ∙ c.if-not-asks_unions.false) (map tree_of c.in-Ok.conds) c.in-Ok.ensures
     (g.T.Table.tally c.args.table.now).counts (g.T.Table.tally c.plan_conjuncts.new.table).counts c.in-Ok-plan_conjuncts.ensures.counts
