@@ -30,7 +30,7 @@ use Rattle.rx_merge_plan.proofs.Counted.{AreReady, lists_are, as_many, seeks_lis
 use Rattle.rx_merge_plan.proofs.Open.{too_many, not_open, considered, found_some, found_none}
 use Rattle.rx_merge_plan.proofs.Running.{union_runs}
 
-at_most : (a b : ℕ) → nat_le a b ≡ true → a ≤ b
+pub at_most : (a b : ℕ) → nat_le a b ≡ true → a ≤ b
 at_most a b e = grind (arith, e)
 
 if_weaker : {A : Type 0} (P Q : A → Type 0) → ((x : A) → P x → Q x) → (o : Option A) → IfSome o P → IfSome o Q

@@ -1,5 +1,7 @@
 pub mod Counted
+pub mod Defined
 pub mod Disjoined
+mod Examples
 pub mod Found
 pub mod Gathered
 pub mod Meetings

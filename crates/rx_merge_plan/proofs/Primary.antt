@@ -85,6 +85,19 @@ found_indexes : (member : ℕ) (rs : List Ranged) → map (λ s. s.index) (map (
 found_indexes member [] = refl
 found_indexes member (r ∷ rs) = ap (λ l. r.index ∷ l) (found_indexes member rs)
 
+-- scans on the indexes that a condition narrows have one of the primary key at most
+pub one_primary : (settings : Settings) (q : Question) (schema : Schema) (cond : Tree) (scans : List Scan) → IsSchema schema
+    → map (λ s. s.index) scans ≡ map (λ r. r.index) (ranged_by settings q schema cond) → length (filter (λ s. is_primary schema s.index) scans) ≤ 1
+one_primary settings q schema cond scans is e =
+    let p = is_primary schema in
+    omega (
+      arith,
+      by_index p scans,
+      ap (λ l. length (filter p l)) e,
+      pass_in p settings q schema cond (index_numbers schema),
+      one_from p (later_not schema.indexes is.primary_first) (length schema.indexes),
+    )
+
 module _ (settings : Settings) (table : Meaning) where
   same_indexes : (scans counted : List Scan) → AreCounted settings table scans counted → map (λ s. s.index) counted ≡ map (λ s. s.index) scans
   same_indexes [] [] h = refl
@@ -103,15 +116,8 @@ module _ (settings : Settings) (table : Meaning) where
   pub counted_are : (q : Question) (cond : Tree) (member : ℕ) (counted : List Scan) → IsSchema table.schema
       → AreCounted settings table (map (found_scan member) (ranged_by settings q table.schema cond)) counted → AreOfCondition table.schema counted
   counted_are q cond member counted is h =
-      let p = is_primary table.schema in
       let rs = ranged_by settings q table.schema cond in
       record {
         roles = All-from_recursion (λ s. s.role ≡ ScanRole) counted (roles member rs counted h);
-        primary = omega (
-          arith,
-          by_index p counted,
-          ap (λ l. length (filter p l)) (same_indexes (map (found_scan member) rs) counted h ∙ found_indexes member rs),
-          pass_in p settings q table.schema cond (index_numbers table.schema),
-          one_from p (later_not table.schema.indexes is.primary_first) (length table.schema.indexes),
-        );
+        primary = one_primary settings q table.schema cond counted is (same_indexes (map (found_scan member) rs) counted h ∙ found_indexes member rs);
       }

@@ -6,11 +6,13 @@ mod counting;
 mod disjoining;
 mod finding;
 mod intersecting;
+mod laws;
 mod planning;
 mod plans;
 mod uniting;
 
 pub use counting::count_scans;
 pub use finding::find_scans;
+pub use laws::defined_merges_can_run;
 pub use planning::merges;
 pub use plans::MergePlans;
