@@ -33,7 +33,7 @@ use Rattle.rx_scan.specs.Laws.{is_in_ranges}
 use Rattle.rx_scan.proofs.Opened.{row_at_is, all_rows}
 use Rattle.rx_merge.specs.Ids.{has_id}
 use Rattle.rx_merge.specs.Merged.{IsMerge, ids_in, is_scanned, is_merged, merged_ids}
-use Rattle.rx_merge.specs.Runs.{IsOpened, HandsOutAll}
+use Rattle.rx_merge.specs.Runs.{Merging, IsOpened, HandsOutAll}
 use Rattle.rx_merge.specs.Laws.{is_in_scan, is_in_member, merged_rows, AreByIdWhereRead}
 use Rattle.rx_merge.proofs.Having.{has_from_contains, has_moved}
 use Rattle.rx_merge.proofs.Members.{some_agree}
@@ -61,16 +61,16 @@ ids_rise c t = IsStrictlyIncreasing-filter (is_merged t c.scans) (range_with_len
 -- ---- a run to its end
 
 -- a run hands out what is left
-pub all_left : (left ids : List ℕ) → HandsOutAll left ids → ids ≡ left
-all_left left [] h = sym h.0
-all_left left (id ∷ ids) h = ap (λ xs. id ∷ xs) (all_left h.0 ids h.2) ∙ sym h.1
+pub all_left : (run : Merging) (ids : List ℕ) → HandsOutAll run ids → ids ≡ run.left
+all_left run [] h = sym h.0
+all_left run (id ∷ ids) h = ap (λ xs. id ∷ xs) (all_left h.0 ids h.2) ∙ sym h.1.0
 
-pub handed_out : (c : Candidate) (table : Meaning) (left ids : List ℕ) → IsOpened table c left → HandsOutAll left ids → IfSome table.told (λ t. ids ≡ merged_ids c t)
-handed_out c table left ids o h = by table.told o.ids
+pub handed_out : (c : Candidate) (table : Meaning) (run : Merging) (ids : List ℕ) → IsOpened table c run → HandsOutAll run ids → IfSome table.told (λ t. ids ≡ merged_ids c t)
+handed_out c table run ids o h = by table.told o.ids
   where
-    by : (told : Option Indexed) → IfSome told (λ t. left ≡ merged_ids c t) → IfSome told (λ t. ids ≡ merged_ids c t)
+    by : (told : Option Indexed) → IfSome told (λ t. run.left ≡ merged_ids c t) → IfSome told (λ t. ids ≡ merged_ids c t)
     by None e = tt
-    by (Some t) e = all_left left ids h ∙ e
+    by (Some t) e = all_left run ids h ∙ e
 
 -- ---- the ids of a scan
 

@@ -1,6 +1,6 @@
 -- The ids that are gathered, place by place and scan by scan.
 use Rattle.std.proofs.Common.{◌≡◌, ℕ, ◌+◌, ◌<◌, Bool, true, false, nat_eq, List, [], ◌∷◌, ◌++◌, map, take, length, get_or, slice_get, Option, Some, None, IfSome, All, refl, sym, ap, ◌∙◌, subst, arith, append_assoc, length-append}
-use Rattle.std.specs.Prelude.{if◌then◌else◌, slice_index}
+use Rattle.std.specs.Prelude.{◌-◌, ◌^◌, min, if◌then◌else◌, slice_index}
 use Rattle.std.specs.Ordering.{nat_cmp}
 use Rattle.std.specs.List.{list_any}
 use Rattle.std.specs.List.Sorted.{IsPermutation, IsStrictlyIncreasing}
@@ -16,8 +16,8 @@ use Rattle.rx_store.specs.Tables.{Meaning, IsMeaning, IsTold, add_counts, with_e
 use Rattle.rx_cost.specs.declared.candidates.Scan.{Scan}
 use Rattle.rx_cost.specs.declared.candidates.Candidate.{Candidate}
 use Rattle.rx_merge.specs.Ids.{has_id, met_ids, MeetsAt, HasOfAll}
-use Rattle.rx_merge.specs.Merged.{is_scanned, scanned_ids, scans_of, is_merged, merged_ids, reads_of, AreMembers, AreBelow}
-use Rattle.rx_merge.specs.Runs.{IsOpened, ReadsIds}
+use Rattle.rx_merge.specs.Merged.{entries_of, is_scanned, scanned_ids, scans_of, is_merged, merged_ids, reads_of, AreMembers, AreBelow}
+use Rattle.rx_merge.specs.Runs.{IsOpened, ReadsIds, counted}
 use Rattle.rx_merge.proofs.Having.{has_moved, has_first}
 use Rattle.rx_merge.proofs.Members.{member_more, held_is, held_all}
 use Rattle.rx_merge.proofs.Reading.{entry_more, reads_more}
@@ -82,10 +82,10 @@ module _ (scans : List Scan) (i : ℕ) (scan : Scan) (found ids : List ℕ) (old
       (below_by P (nat_eq scan.member n) (get nat_cmp old n) (get nat_cmp old scan.member) (All-permutation P found ids same all) (h n) (h scan.member))
 
 -- what is read of one scan more
-pub read_more : (table : Meaning) (scans : List Scan) (i : ℕ) (scan : Scan) (old mid new : Counts) → i < length scans → scan ≡ get_or scans i scan
-    → ReadsIds table (take i scans) old mid → ReadsIds table (scan ∷ []) mid new → ReadsIds table (take (i + 1) scans) old new
-read_more table scans i scan old mid new lt is p q =
-    subst (λ (l : List Scan). ReadsIds table l old new) (sym (scans_more scans i scan lt is)) (reads_more table (take i scans) scan old mid new p q)
+pub read_more : (table : Meaning) (scans : List Scan) (i : ℕ) (scan : Scan) (old mid new : Counts) (a b c : ℕ) → i < length scans → scan ≡ get_or scans i scan → c ≡ min (a + b) (2 ^ 64 - 1)
+    → ReadsIds table (take i scans) old mid a → ReadsIds table (scan ∷ []) mid new b → ReadsIds table (take (i + 1) scans) old new c
+read_more table scans i scan old mid new a b c lt is e p q =
+    subst (λ (l : List Scan). ReadsIds table l old new c) (sym (scans_more scans i scan lt is)) (reads_more table (take i scans) scan old mid new a b c e p q)
 
 -- ---- the ids of all members
 
@@ -113,5 +113,6 @@ module _ (table : Meaning) (c : Candidate) (members : BTreeMap ℕ (List ℕ)) (
       rising_is ids (length t.rows) (is_merged t c.scans) rising (within_told table t c.scans ids m merged within) (λ id lt. merged id)
 
   -- the ids of the members are those of the merge
-  pub opened : IfSome table.told (λ t. AreMembers t c.scans members) → IsOpened table c ids
-  opened h = record { ids = ids_told table.told (λ lt. (sound lt).told) h; within = within; rising = rising }
+  pub opened : (count : ℕ) → IfSome table.told (λ t. count ≡ counted (entries_of table c.scans)) → IfSome table.told (λ t. AreMembers t c.scans members)
+      → IsOpened table c (record { left = ids; entries = count })
+  opened count e h = record { ids = ids_told table.told (λ lt. (sound lt).told) h; entries = e; within = within; rising = rising }

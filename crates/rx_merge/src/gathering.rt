@@ -13,6 +13,20 @@ use rx_value::List;
 use std::alloc::{AllocError, Global};
 use std::collections::BTreeMap;
 
+/// The ids of a scan, and how many entries were read for them.
+#[derive(Drop)]
+pub(crate) struct Found {
+    pub ids: IdList,
+    pub entries: u64,
+}
+
+/// The ids of each member by its number, and how many entries were read for them. The count stays at its last value.
+#[derive(Drop)]
+pub(crate) struct Gathered {
+    pub members: BTreeMap<u32, IdList>,
+    pub entries: u64,
+}
+
 // Whether an index by its number is the primary key.
 fn is_primary<T: Table>(table: &T, index: u32) -> bool
     requires { HasIndex (T.means table.now) index }
@@ -44,7 +58,8 @@ fn read_ids<T: Table>(
     requires places { All (λ place. place < (T.means table.old).count) places }
     ensures told { IfOk result (λ ids. IfSome (T.means table.old).told (λ t. ids ≡ map (slice_index (ids_at t index)) places)) }
     ensures within { IfOk result (λ ids. All (λ id. id < (T.means table.old).count) ids) }
-    ensures counts { OnOk result ((T.tally table.new).counts ≡ add_counts (reads_of [] (length places)) (T.tally table.old).counts) }
+    ensures counts { IfOk result (λ ids. (T.tally table.new).counts ≡ add_counts (reads_of [] (length ids)) (T.tally table.old).counts) }
+    ensures many { IfOk result (λ ids. length ids ≡ length places) }
     ensures keeps { OnOk result (Keeps T.means T.tally T.kept T.spent None table.old table.new) }
     ensures cause { IfErr result (λ f. Keeps T.means T.tally T.kept T.spent (Some f) table.old table.new) }
 {
@@ -62,11 +77,11 @@ fn read_ids<T: Table>(
 }
 
 // The ids in the ranges of a scan: two seeks for each range, and each entry where its index isn't the primary key.
-fn find_ids<T: Table>(alloc: Global, table: &mut T, scan: &Scan) -> Result<IdList, TableFault>
+fn find_ids<T: Table>(alloc: Global, table: &mut T, scan: &Scan) -> Result<Found, TableFault>
     requires { HasIndex (T.means table.old) scan.now.index }
-    ensures told { IfOk result (λ ids. IfSome (T.means table.old).told (λ t. ids ≡ scanned_ids t scan.now)) }
-    ensures within { IfOk result (λ ids. All (λ id. id < (T.means table.old).count) ids) }
-    ensures reads { OnOk result (ReadsIds (T.means table.old) (scan.now ∷ []) (T.tally table.old).counts (T.tally table.new).counts) }
+    ensures told { IfOk result (λ found. IfSome (T.means table.old).told (λ t. found.ids ≡ scanned_ids t scan.now)) }
+    ensures within { IfOk result (λ found. All (λ id. id < (T.means table.old).count) found.ids) }
+    ensures reads { IfOk result (λ found. ReadsIds (T.means table.old) (scan.now ∷ []) (T.tally table.old).counts (T.tally table.new).counts found.entries) }
     ensures sound { IsMeaning (T.means table.old) }
     ensures keeps { OnOk result (Keeps T.means T.tally T.kept T.spent None table.old table.new) }
     ensures cause { IfErr result (λ f. Keeps T.means T.tally T.kept T.spent (Some f) table.old table.new) }
@@ -78,12 +93,15 @@ fn find_ids<T: Table>(alloc: Global, table: &mut T, scan: &Scan) -> Result<IdLis
     };
     if primary {
         return match list_places(alloc, places) {
-            Ok(ids) => Ok(ids),
+            Ok(ids) => Ok(Found { ids, entries: 0 }),
             Err(_) => Err(TableFault::NoMemory),
         };
     }
     match read_ids(alloc, table, scan.index, places) {
-        Ok(ids) => Ok(ids),
+        Ok(ids) => {
+            let entries = ids.len() as u64;
+            Ok(Found { ids, entries })
+        }
         Err(fault) => Err(fault),
     }
 }
@@ -94,24 +112,26 @@ pub(crate) fn gather<T: Table>(
     alloc: Global,
     table: &mut T,
     scans: &ScanList,
-) -> Result<BTreeMap<u32, IdList>, TableFault>
+) -> Result<Gathered, TableFault>
     requires { All (λ scan. HasIndex (T.means table.old) scan.index) scans.now }
-    ensures told { IfOk result (λ members. IfSome (T.means table.old).told (λ t. AreMembers t scans.now members)) }
-    ensures within { IfOk result (AreBelow (T.means table.old).count) }
-    ensures reads { OnOk result (ReadsIds (T.means table.old) scans.now (T.tally table.old).counts (T.tally table.new).counts) }
+    ensures told { IfOk result (λ all. IfSome (T.means table.old).told (λ t. AreMembers t scans.now all.members)) }
+    ensures within { IfOk result (λ all. AreBelow (T.means table.old).count all.members) }
+    ensures reads { IfOk result (λ all. ReadsIds (T.means table.old) scans.now (T.tally table.old).counts (T.tally table.new).counts all.entries) }
     ensures sound { OnOk result (0 < length scans.now → IsMeaning (T.means table.old)) }
     ensures keeps { OnOk result (Keeps T.means T.tally T.kept T.spent None table.old table.new) }
     ensures cause { IfErr result (λ f. Keeps T.means T.tally T.kept T.spent (Some f) table.old table.new) }
 {
     let mut members = BTreeMap::new(alloc);
+    let mut entries: u64 = 0;
     for scan in scans.as_slice() {
         let found = match find_ids(alloc, table, scan) {
             Ok(found) => found,
             Err(fault) => return Err(fault),
         };
-        let Ok(()) = meet(&mut members, scan.member, sorted(found)) else {
+        entries = entries.saturating_add(found.entries);
+        let Ok(()) = meet(&mut members, scan.member, sorted(found.ids)) else {
             return Err(TableFault::NoMemory);
         };
     }
-    Ok(members)
+    Ok(Gathered { members, entries })
 }

@@ -7,7 +7,7 @@ ghost use Rattle.rx_index.specs.declared.indexed.Indexed.{Indexed as indexed};
 ghost use Rattle.rx_store.specs.Tables.{Meaning as meaning, IsMeaning};
 ghost use Rattle.rx_cost.specs.declared.candidates.Candidate.{Candidate as candidate_record};
 ghost use Rattle.rx_merge.specs.Merged.{IsMerge, merged_ids};
-ghost use Rattle.rx_merge.specs.Runs.{IsOpened, HandsOutAll};
+ghost use Rattle.rx_merge.specs.Runs.{Merging as merging, IsOpened, HandsOutAll};
 ghost use Rattle.rx_merge.specs.Laws.{is_in_member, merged_rows, AreByIdWhereRead};
 
 /// The ids that a merge hands out are those of rows, and rise.
@@ -36,6 +36,6 @@ pub fn merges_lose_no_row()
 
 /// A run from its opening to its end hands out exactly the ids that its candidate merges, in their order.
 pub fn runs_hand_out_what_is_merged()
-    ensures { (c : candidate_record) (table : meaning) (left ids : List ℕ) → IsOpened table c left → HandsOutAll left ids
+    ensures { (c : candidate_record) (table : meaning) (run : merging) (ids : List ℕ) → IsOpened table c run → HandsOutAll run ids
         → IfSome table.told (λ t. ids ≡ merged_ids c t) }
 {}

@@ -11,7 +11,7 @@ invariant-loop-scan g l =
     record {
       told : IfSome table.told (λ t. AreMembers t (take l.scan-index l.scans) l.members);
       within : AreBelow table.count l.members;
-      reads : ReadsIds table (take l.scan-index l.scans) (g.T.Table.tally l.initial.table).counts (g.T.Table.tally l.table).counts;
+      reads : ReadsIds table (take l.scan-index l.scans) (g.T.Table.tally l.initial.table).counts (g.T.Table.tally l.table).counts l.entries;
       sound : 0 < l.scan-index → IsMeaning table;
       keeps : Keeps g.T.Table.means g.T.Table.tally g.T.Table.kept g.T.Table.spent None l.initial.table l.table;
     }
