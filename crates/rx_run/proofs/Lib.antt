@@ -1,0 +1,5 @@
+pub mod Counting
+pub mod Rows
+pub mod Opening
+pub mod Small
+pub mod Shown
