@@ -30,9 +30,11 @@ use Rattle.rx_named.proofs.Answers.{answered_seen, answered_kept, visits_answer}
 use Rattle.rx_named.proofs.Seen.{seen_keeps}
 use Rattle.rx_estimate.specs.Estimates.{parts_in}
 use Rattle.rx_plan.specs.Known.{Known, AreKnown}
-use Rattle.rx_plan.specs.Candidates.{table_scan, candidates, chosen}
-use Rattle.rx_plan.specs.Kinds.{Covers, IsOfKind, IsOfItsKind, IsCoveringScan, IsScanOfRanges}
-use Rattle.rx_plan.proofs.Members.{all_of_kinds}
+use Rattle.rx_plan.specs.Candidates.{table_scan}
+use Rattle.rx_candidates.specs.Candidates.{candidates, chosen}
+use Rattle.rx_plan.specs.Kinds.{Covers, IsCoveringScan, IsScanOfRanges}
+use Rattle.rx_candidates.specs.Kinds.{IsOfKind, IsOfItsKind}
+use Rattle.rx_candidates.proofs.Members.{all_of_kinds}
 use Rattle.rx_scan.specs.Handed.{is_part, seen_row}
 use Rattle.rx_scan.specs.Handing.{IsScan}
 use Rattle.rx_scan.specs.Laws.{is_in_ranges, rows_in_ranges, rows_seen, reads_entries, is_by_entries, AreById, SuitsScan}

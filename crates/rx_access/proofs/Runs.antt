@@ -16,11 +16,13 @@ use Rattle.rx_cost.specs.declared.candidates.Scan.{Scan}
 use Rattle.rx_cost.specs.declared.candidates.Candidate.{Candidate}
 use Rattle.rx_estimate.specs.Estimates.{parts_in, uses_statistics}
 use Rattle.rx_plan.specs.Known.{Known, Ranged, AreKnown}
-use Rattle.rx_plan.specs.Candidates.{whole_scan, estimated, candidates}
+use Rattle.rx_plan.specs.Candidates.{whole_scan, estimated}
+use Rattle.rx_candidates.specs.Candidates.{candidates}
 use Rattle.rx_plan.specs.Plan.{LosesNoRow}
 use Rattle.rx_plan.specs.Plan.{IsRangeOf as IsPlanned}
-use Rattle.rx_plan.specs.Kinds.{IsOfKind, IsOfItsKind, IsScanOfRanges}
-use Rattle.rx_plan.proofs.Members.{all_of_kinds}
+use Rattle.rx_plan.specs.Kinds.{IsScanOfRanges}
+use Rattle.rx_candidates.specs.Kinds.{IsOfKind, IsOfItsKind}
+use Rattle.rx_candidates.proofs.Members.{all_of_kinds}
 use Rattle.rx_scan.specs.Handing.{IsRangeOf, AreRangesOf, IsScanOfKind, IsScan}
 
 -- a range of an index for the plan is one for the scan

@@ -10,7 +10,8 @@ use Rattle.rx_cost.specs.declared.candidates.Kind.{Kind}
 use Rattle.rx_cost.specs.declared.candidates.Kind.TheVariants.{Table, Index, Range, Group, SkipScan, Intersect, Union, SortUnion}
 use Rattle.rx_cost.specs.declared.candidates.Candidate.{Candidate}
 use Rattle.rx_estimate.specs.Estimates.{parts_in}
-use Rattle.rx_plan.specs.Kinds.{IsOfKind, IsOfItsKind, IsCoveringScan, IsScanOfRanges}
+use Rattle.rx_plan.specs.Kinds.{IsCoveringScan, IsScanOfRanges}
+use Rattle.rx_candidates.specs.Kinds.{IsOfKind, IsOfItsKind}
 use Rattle.rx_scan.specs.Handed.{AreWhole}
 use Rattle.rx_scan.specs.Laws.{reads_entries, AreById, SuitsScan}
 use Rattle.rx_scan.specs.Visits.{index_of, ranges_of, is_primary}

@@ -7,7 +7,7 @@ ghost use Rattle.rx_query.specs.declared.settings.Settings.{Settings as settings
 ghost use Rattle.rx_index.specs.declared.indexed.Indexed.{Indexed};
 ghost use Rattle.rx_store.specs.Tables.{Meaning as meaning, IsMeaning};
 ghost use Rattle.rx_plan.specs.Known.{Known, AreKnown};
-ghost use Rattle.rx_plan.specs.Candidates.{candidates, chosen};
+ghost use Rattle.rx_candidates.specs.Candidates.{candidates, chosen};
 ghost use Rattle.rx_scan.specs.Handing.{IsScan};
 ghost use Rattle.rx_scan.specs.Laws.{AreById};
 ghost use Rattle.rx_access.specs.Access.{ComparesWhereCut, IsAnswerOf};

@@ -12,17 +12,19 @@ use Rattle.rx_rows.specs.Finish.{outputs_of}
 use Rattle.rx_rows.proofs.Bags.{answers_are_in_order}
 use Rattle.rx_cost.specs.declared.candidates.Kind.TheVariants.{Range}
 use Rattle.rx_cost.specs.declared.candidates.Candidate.{Candidate}
-use Rattle.rx_plan.specs.Candidates.{IsChosen}
-use Rattle.rx_plan.specs.Kinds.{IsOfKind, IsOfItsKind, IsScanOfRanges}
-use Rattle.rx_plan.proofs.Members.{all_of_kinds}
-use Rattle.rx_plan.proofs.Once as once
+use Rattle.rx_candidates.specs.Candidates.{IsChosen}
+use Rattle.rx_plan.specs.Kinds.{IsScanOfRanges}
+use Rattle.rx_candidates.specs.Kinds.{IsOfKind, IsOfItsKind}
+use Rattle.rx_candidates.proofs.Members.{all_of_kinds}
+use Rattle.rx_candidates.proofs.Once as once
 use Rattle.rx_scan.specs.Laws.{AreById}
 use Rattle.rx_scan.specs.Visits.{visited}
 use Rattle.rx_access.specs.Access.{ComparesWhereCut}
 use Rattle.rx_access.proofs.Answered.{chosen_answers}
-use Rattle.rx_engine.specs.Candidates.{known_of, candidates_of, chosen_of}
+use Rattle.rx_engine.specs.Candidates.{candidates_of, chosen_of}
+use Rattle.rx_plan.specs.Known.{known_of}
 use Rattle.rx_engine.specs.Headline.{RangesKeepRows, IsBagBlock}
-use Rattle.rx_engine.proofs.Planned.{known_are}
+use Rattle.rx_plan.proofs.Once.{known_are}
 
 module _ (settings : Settings) (q : Question) (table : Meaning) (t : Indexed) where
   pub first_is_chosen : IsChosen (candidates_of settings q table t) (chosen_of settings q table t)

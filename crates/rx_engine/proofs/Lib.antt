@@ -6,4 +6,3 @@ pub mod Running
 pub mod Scans
 pub mod Short
 pub mod Small
-pub mod Told

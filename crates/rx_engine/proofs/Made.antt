@@ -18,7 +18,7 @@ use Rattle.rx_estimate.specs.Estimates.{with_seeks}
 use Rattle.rx_cost.specs.declared.candidates.Candidate.{Candidate}
 use Rattle.rx_cost.specs.Choice.{cost_of, chosen_place}
 use Rattle.rx_cost.proofs.Least.{place_is_first, one_first}
-use Rattle.rx_plan.specs.Known.{reason_of}
+use Rattle.rx_plan.specs.Known.{reason_of, known_of}
 use Rattle.rx_plan.specs.Candidates.{table_scan}
 use Rattle.rx_scan.specs.Handing.{IsScan}
 use Rattle.rx_scan.specs.Visits.{visits, visited}
@@ -27,7 +27,7 @@ use Rattle.rx_engine.specs.declared.plans.Plan.{Plan}
 use Rattle.rx_engine.specs.declared.answering.Answer.{Answer}
 use Rattle.rx_engine.specs.declared.engine.Report.{Report}
 use Rattle.rx_engine.specs.declared.engine.Block.{Block}
-use Rattle.rx_engine.specs.Candidates.{known_of, reasons_of, dives_of, candidates_of, chosen_of, behind_seeks, reads_of}
+use Rattle.rx_engine.specs.Candidates.{reasons_of, dives_of, candidates_of, chosen_of, behind_seeks, reads_of}
 use Rattle.rx_engine.specs.Plan.{HasFewRanges, IsPlan}
 use Rattle.rx_engine.specs.Blocks.{told_of, block_over, block_for, report_of, output_of}
 use Rattle.rx_engine.specs.Answers.{AnswersBy, IsAnswerBy}

@@ -24,45 +24,25 @@ use Rattle.rx_build.specs.Given.{answer_for}
 use Rattle.rx_build.proofs.Given.{given_is_answer}
 use Rattle.rx_plan.specs.declared.plans.OrdinaryPlan.{OrdinaryPlan}
 use Rattle.rx_plan.specs.Naming.{is_usable, index_numbers}
-use Rattle.rx_plan.specs.Known.{Known, Ranged, items_limit, IsKnown, IsKnownAs, AreKnown, reason_of, ranged_as, ranged_in, seeks_known}
-use Rattle.rx_plan.specs.Candidates.{table_scan, index_scan, covering_scans, range_scan, range_scans, candidates}
+use Rattle.rx_plan.specs.Known.{Known, Ranged, items_limit, IsKnown, IsKnownAs, AreKnown, known_at, known_of, reason_of, ranged_as, ranged_in, seeks_known}
+use Rattle.rx_plan.specs.Candidates.{table_scan, index_scan, covering_scans, range_scan, range_scans}
+use Rattle.rx_candidates.specs.Candidates.{candidates}
 use Rattle.rx_plan.specs.Plan.{IsRangeScan, AreRangeScans, LosesNoRow, KeepsRows, IsOrdinary, seeks_taken}
 use Rattle.rx_plan.proofs.Few.{few_ranges}
-use Rattle.rx_plan.proofs.Once.{one_known}
+use Rattle.rx_plan.proofs.Once.{known_are, known_same}
 use Rattle.rx_scan.specs.Handing.{IsScan, IsScanOfKind}
 use Rattle.rx_scan.specs.Visits.{ranges_of}
 use Rattle.rx_access.proofs.Runs.{ranges_so, all_run}
 use Rattle.rx_engine.specs.declared.plans.Plan.{Plan}
-use Rattle.rx_engine.specs.Seeks.{most_told, seeks_of_scan, seeks_of_candidate}
-use Rattle.rx_engine.specs.Candidates.{known_at, known_of, dives_of, candidates_of}
+use Rattle.rx_plan.specs.Seeks.{most_told, seeks_of_scan, seeks_of_candidate}
+use Rattle.rx_engine.specs.Candidates.{dives_of, candidates_of}
 use Rattle.rx_engine.specs.Plan.{HasFewRanges, IsPlan, IsListed}
 
 -- ---- what is known of the indexes
 
 module _ (settings : Settings) (q : Question) (schema : Schema) where
-  numbers_known : (ns : List ℕ) → map (λ k. k.index) (map (known_at settings q schema) ns) ≡ ns
-  numbers_known [] = refl
-  numbers_known (n ∷ ns) = ap (λ l. n ∷ l) (numbers_known ns)
-
-  known_by : (n : ℕ) (b : Bool) → is_usable q n ≡ b → IsKnownAs settings q schema n (if b then Some (answer_for schema.columns (parts_in schema n) (items_limit settings.memory) q.cond) else None)
-  known_by n true e = (e, given_is_answer schema.columns (parts_in schema n) (items_limit settings.memory) q.cond)
-  known_by n false e = e
-
-  each_known : (ns : List ℕ) → AllByRecursion (IsKnown settings q schema) (map (known_at settings q schema) ns)
-  each_known [] = tt
-  each_known (n ∷ ns) = (known_by n (is_usable q n) refl, each_known ns)
-
-  pub known_are : AreKnown settings q schema (known_of settings q schema)
-  known_are = record {
-    numbers = numbers_known (index_numbers schema);
-    each = All-from_recursion (IsKnown settings q schema) (known_of settings q schema) (each_known (index_numbers schema));
-  }
-
-  pub known_same : (known : List Known) → AreKnown settings q schema known → known ≡ known_of settings q schema
-  known_same known are = one_known settings q schema known (known_of settings q schema) are known_are
-
   pub many_known : length (known_of settings q schema) ≡ length schema.indexes
-  many_known = length-map (index_numbers schema) (known_at settings q schema) ∙ length-range_with_len 0 (length schema.indexes)
+  many_known = length-map (index_numbers schema) (known_at settings q schema q.cond) ∙ length-range_with_len 0 (length schema.indexes)
 
 -- ---- the seeks of the estimates
 

@@ -1,5 +1,5 @@
--- What is known of the indexes of a table, the candidates of a question, the one that runs, and what is read.
-use Rattle.std.specs.Prelude.{ℕ, ◌+◌, List, map, if◌then◌else◌, Some, None}
+-- The candidates of a question, the one that runs, and what is read.
+use Rattle.std.specs.Prelude.{ℕ, ◌+◌, List, map, Some, None}
 use Rattle.rx_value.specs.declared.shapes.Schema.{Schema}
 use Rattle.rx_index.specs.declared.indexed.Indexed.{Indexed}
 use Rattle.rx_store.specs.declared.tables.Counts.{Counts}
@@ -7,25 +7,11 @@ use Rattle.rx_store.specs.Stored.{no_counts}
 use Rattle.rx_store.specs.Tables.{Meaning}
 use Rattle.rx_query.specs.Steps.{Question}
 use Rattle.rx_query.specs.declared.settings.Settings.{Settings}
-use Rattle.rx_estimate.specs.Estimates.{parts_in}
-use Rattle.rx_build.specs.Given.{answer_for}
 use Rattle.rx_cost.specs.declared.candidates.Candidate.{Candidate}
 use Rattle.rx_cost.specs.declared.candidates.Reason.{Reason}
-use Rattle.rx_plan.specs.Naming.{is_usable, index_numbers}
-use Rattle.rx_plan.specs.Known.{Known, items_limit, reason_of, seeks_known}
-use Rattle.rx_plan.specs.Candidates.{candidates, chosen}
+use Rattle.rx_plan.specs.Known.{known_of, reason_of, seeks_known}
+use Rattle.rx_candidates.specs.Candidates.{candidates, chosen}
 use Rattle.rx_scan.specs.Visits.{visits}
-
--- what is known of an index by its number: the answer of the condition on its parts, where the index is usable
-abbrev pub known_at : Settings → Question → Schema → ℕ → Known
-known_at settings q schema index = record {
-  index = index;
-  answer = if is_usable q index then Some (answer_for schema.columns (parts_in schema index) (items_limit settings.memory) q.cond) else None;
-}
-
--- what is known of all indexes, in order
-abbrev pub known_of : Settings → Question → Schema → List Known
-known_of settings q schema = map (known_at settings q schema) (index_numbers schema)
 
 -- the reason of each index, in order
 abbrev pub reasons_of : Settings → Question → Schema → List Reason

@@ -5,6 +5,5 @@ pub mod Headline
 pub mod Plan
 pub mod Printed
 pub mod Running
-pub mod Seeks
 pub mod Seen
 pub mod Select

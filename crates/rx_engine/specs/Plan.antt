@@ -11,7 +11,7 @@ use Rattle.rx_plan.specs.declared.plans.OrdinaryPlan.{OrdinaryPlan}
 use Rattle.rx_scan.specs.Handing.{IsScan}
 use Rattle.rx_scan.specs.Visits.{ranges_of}
 use Rattle.rx_engine.specs.declared.plans.Plan.{Plan}
-use Rattle.rx_engine.specs.Seeks.{most_told, seeks_of_candidate}
+use Rattle.rx_plan.specs.Seeks.{most_told, seeks_of_candidate}
 use Rattle.rx_engine.specs.Candidates.{reasons_of, dives_of, candidates_of}
 
 -- a candidate has no more ranges than a cost is told for

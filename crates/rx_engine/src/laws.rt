@@ -7,11 +7,11 @@ ghost use Rattle.rx_store.specs.Tables.{Meaning as meaning, IsMeaning};
 ghost use Rattle.rx_query.specs.Grouping.{grouped};
 ghost use Rattle.rx_query.specs.Steps.{Question};
 ghost use Rattle.rx_query.specs.declared.settings.Settings.{Settings as settings_record};
-ghost use Rattle.rx_plan.specs.Known.{AreKnown};
-ghost use Rattle.rx_plan.specs.Candidates.{IsChosen};
+ghost use Rattle.rx_plan.specs.Known.{AreKnown, known_of};
+ghost use Rattle.rx_candidates.specs.Candidates.{IsChosen};
 ghost use Rattle.rx_scan.specs.Laws.{AreById};
 ghost use Rattle.rx_access.specs.Access.{ComparesWhereCut};
-ghost use Rattle.rx_engine.specs.Candidates.{known_of, candidates_of, chosen_of};
+ghost use Rattle.rx_engine.specs.Candidates.{candidates_of, chosen_of};
 ghost use Rattle.rx_engine.specs.Headline.{RangesKeepRows, IsBagBlock};
 
 /// What the plan goes by is what is known of all indexes: of each that a hint leaves, the answer of the condition.

@@ -8,7 +8,6 @@ mod plain;
 mod plans;
 mod printing;
 mod scanning;
-mod seeks;
 
 pub use engine::{Report, SelectFault, select};
 pub use laws::{

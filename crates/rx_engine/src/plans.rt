@@ -7,9 +7,8 @@ ghost use Rattle.rx_estimate.specs.Estimates.{with_seeks};
 ghost use Rattle.rx_engine.specs.Candidates.{dives_of};
 ghost use Rattle.rx_engine.specs.Plan.{IsPlan, IsListed};
 
-use crate::seeks::seeks_of;
 use rx_cost::{Candidate, CandidateList, ReasonList, choose};
-use rx_plan::{OrdinaryPlan, ordinary};
+use rx_plan::{OrdinaryPlan, ordinary, seeks_of};
 use rx_query::{Select, Settings};
 use rx_store::{Table, TableFault};
 use std::alloc::{AllocError, Global};

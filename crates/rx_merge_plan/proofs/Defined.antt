@@ -14,11 +14,11 @@ use Rattle.rx_cost.specs.declared.candidates.Role.TheVariants.{Scan as ScanRole}
 use Rattle.rx_cost.specs.declared.candidates.Scan.{Scan}
 use Rattle.rx_cost.specs.declared.candidates.Candidate.{Candidate}
 use Rattle.rx_plan.specs.Naming.{columns_named}
-use Rattle.rx_plan.specs.Known.{Ranged}
+use Rattle.rx_plan.specs.Known.{Ranged, known_by}
 use Rattle.rx_merges.specs.Fitting.{IsCounted, most_disjuncts}
 use Rattle.rx_merges.specs.Rules.{AreOfCondition, IsIntersection}
 use Rattle.rx_merges.proofs.Ruling.{intersections_are}
-use Rattle.rx_merge_plan.specs.Disjuncts.{known_by, ranged_by, ranged_lists, disjunctions, is_open, has_few_disjuncts, is_considered, open_lists, scans_of, scan_lists, asks_unions, asks_intersections}
+use Rattle.rx_merge_plan.specs.Disjuncts.{ranged_by, ranged_lists, disjunctions, is_open, has_few_disjuncts, is_considered, open_lists, scans_of, scan_lists, asks_unions, asks_intersections}
 use Rattle.rx_merge_plan.specs.Merges.{intersections_at, intersections, union_at, unions, CanMeet, CanMerge}
 use Rattle.rx_merge_plan.proofs.Narrowed.{IsNarrowed, all_narrowed, few_narrowed}
 use Rattle.rx_merge_plan.proofs.Counted.{AreReady}

@@ -144,10 +144,13 @@ module _ (settings : Settings) (q : Question) (table : Meaning) (cond : Tree) wh
         ∙ lists_counted settings table t 1 ranged))
         ∙ sym (ap (λ (b : Bool). if b then option_to_list (union_at settings table t ranged) else []) is_so.0)) table.told h
 
+    pub joined_number : sum_by (scan_seeks settings) lists ≡ seeks_at settings q table.schema ranged
+    joined_number =
+        ap (sum_by (scan_seeks settings)) is_so.1 ∙ seeks_lists settings 1 ranged
+        ∙ sym (ap (λ (c : Bool). if c then sum_by (seeks_of settings) ranged else 0) is_so.0)
+
     pub joined_seeks : (a b : Counts) → b ≡ with_seeks (sum_by (scan_seeks settings) lists) a → b ≡ with_seeks (seeks_at settings q table.schema ranged) a
-    joined_seeks a b h =
-        h ∙ ap (λ k. with_seeks k a) (ap (sum_by (scan_seeks settings)) is_so.1 ∙ seeks_lists settings 1 ranged
-        ∙ sym (ap (λ (c : Bool). if c then sum_by (seeks_of settings) ranged else 0) is_so.0))
+    joined_seeks a b h = h ∙ ap (λ k. with_seeks k a) joined_number
 
   module _ (schema : Schema) (p : schema ≡ table.schema) (o : Option (List (List Scan)))
       (f : o ≡ found_where q schema (ranged_lists settings q schema cond)) (is : o ≡ None) where
@@ -159,9 +162,11 @@ module _ (settings : Settings) (q : Question) (table : Meaning) (cond : Tree) wh
         if_any (λ t. [] ≡ unions_at settings q table t ranged)
         (λ t. sym (ap (λ (b : Bool). if b then option_to_list (union_at settings table t ranged) else []) isnt)) table.told
 
+    pub none_number : 0 ≡ seeks_at settings q table.schema ranged
+    none_number = sym (ap (λ (c : Bool). if c then sum_by (seeks_of settings) ranged else 0) isnt)
+
     pub none_seeks : (a : Counts) → a ≡ with_seeks (seeks_at settings q table.schema ranged) a
-    none_seeks a =
-        sym (with_seeks-zero a) ∙ ap (λ k. with_seeks k a) (sym (ap (λ (c : Bool). if c then sum_by (seeks_of settings) ranged else 0) isnt))
+    none_seeks a = sym (with_seeks-zero a) ∙ ap (λ k. with_seeks k a) none_number
 
   -- ---- a conjunct, a disjunction or not
 
@@ -172,17 +177,23 @@ module _ (settings : Settings) (q : Question) (table : Meaning) (cond : Tree) wh
         if_weaker (λ t. list ≡ unions_at settings q table t ranged) (λ t. list ≡ unions_by settings q table t cond)
         (λ t k. k ∙ sym (ap (λ (b : Bool). if b then unions_at settings q table t ranged else []) is)) table.told h
 
+    pub conjunct_number : seeks_at settings q table.schema ranged ≡ seeks_by settings q table.schema cond
+    conjunct_number = sym (ap (λ (c : Bool). if c then seeks_at settings q table.schema ranged else 0) is)
+
     pub conjunct_seeks : (a b : Counts) → b ≡ with_seeks (seeks_at settings q table.schema ranged) a
         → b ≡ with_seeks (seeks_by settings q table.schema cond) a
-    conjunct_seeks a b h = h ∙ ap (λ k. with_seeks k a) (sym (ap (λ (c : Bool). if c then seeks_at settings q table.schema ranged else 0) is))
+    conjunct_seeks a b h = h ∙ ap (λ k. with_seeks k a) conjunct_number
 
   module _ (is : is_disjunction cond ≡ false) where
     pub other_told : IfSome table.told (λ t. [] ≡ unions_by settings q table t cond)
     other_told = if_any (λ t. [] ≡ unions_by settings q table t cond)
         (λ t. sym (ap (λ (b : Bool). if b then unions_at settings q table t ranged else []) is)) table.told
 
+    pub other_number : 0 ≡ seeks_by settings q table.schema cond
+    other_number = sym (ap (λ (c : Bool). if c then seeks_at settings q table.schema ranged else 0) is)
+
     pub other_seeks : (a : Counts) → a ≡ with_seeks (seeks_by settings q table.schema cond) a
-    other_seeks a = sym (with_seeks-zero a) ∙ ap (λ k. with_seeks k a) (sym (ap (λ (c : Bool). if c then seeks_at settings q table.schema ranged else 0) is))
+    other_seeks a = sym (with_seeks-zero a) ∙ ap (λ k. with_seeks k a) other_number
 
 -- ---- all conjuncts
 
@@ -199,12 +210,15 @@ module _ (settings : Settings) (q : Question) (table : Meaning) where
         ∙ gathered is_disjunction (ranged_lists settings q table.schema) (is_considered q table.schema) (union_at settings table t) (conjuncts_of q.cond)
         ∙ sym (ap (λ (b : Bool). if b then filter_map (union_at settings table t) all_open else []) asked)) table.told h
 
+    pub all_number : sum_by (seeks_by settings q table.schema) trees ≡ merge_seeks settings q table.schema
+    all_number =
+        ap (sum_by (seeks_by settings q table.schema)) are
+        ∙ sum_gathered is_disjunction (ranged_lists settings q table.schema) (is_considered q table.schema) (sum_by (seeks_of settings)) (conjuncts_of q.cond)
+        ∙ sym (ap (λ (c : Bool). if c then sum_by (sum_by (seeks_of settings)) all_open else 0) asked)
+
     pub all_seeks : (a b : Counts) → b ≡ with_seeks (sum_by (seeks_by settings q table.schema) trees) a
         → b ≡ with_seeks (merge_seeks settings q table.schema) a
-    all_seeks a b h =
-        h ∙ ap (λ k. with_seeks k a) (ap (sum_by (seeks_by settings q table.schema)) are
-        ∙ sum_gathered is_disjunction (ranged_lists settings q table.schema) (is_considered q table.schema) (sum_by (seeks_of settings)) (conjuncts_of q.cond)
-        ∙ sym (ap (λ (c : Bool). if c then sum_by (sum_by (seeks_of settings)) all_open else 0) asked))
+    all_seeks a b h = h ∙ ap (λ k. with_seeks k a) all_number
 
   module _ (asked : asks_unions settings ≡ false) where
     pub unasked_told : (list : List Candidate) → list ≡ [] → IfSome table.told (λ t. list ≡ unions settings q table t)
@@ -212,6 +226,8 @@ module _ (settings : Settings) (q : Question) (table : Meaning) where
         if_any (λ t. list ≡ unions settings q table t) (λ t. none
         ∙ sym (ap (λ (b : Bool). if b then filter_map (union_at settings table t) all_open else []) asked)) table.told
 
+    pub unasked_number : 0 ≡ merge_seeks settings q table.schema
+    unasked_number = sym (ap (λ (c : Bool). if c then sum_by (sum_by (seeks_of settings)) all_open else 0) asked)
+
     pub unasked_seeks : (a : Counts) → a ≡ with_seeks (merge_seeks settings q table.schema) a
-    unasked_seeks a = sym (with_seeks-zero a) ∙ ap (λ k. with_seeks k a)
-        (sym (ap (λ (c : Bool). if c then sum_by (sum_by (seeks_of settings)) all_open else 0) asked))
+    unasked_seeks a = sym (with_seeks-zero a) ∙ ap (λ k. with_seeks k a) unasked_number

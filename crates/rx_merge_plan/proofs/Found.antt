@@ -16,9 +16,9 @@ use Rattle.rx_build.proofs.Given.{answer_is_given}
 use Rattle.rx_estimate.specs.Estimates.{parts_in}
 use Rattle.rx_cost.specs.declared.candidates.Scan.{Scan}
 use Rattle.rx_plan.specs.Naming.{is_usable}
-use Rattle.rx_plan.specs.Known.{items_limit, ranged_as, ranged_in}
+use Rattle.rx_plan.specs.Known.{items_limit, ranged_as, ranged_in, known_at}
 use Rattle.rx_plan.proofs.Named.{range_more}
-use Rattle.rx_merge_plan.specs.Disjuncts.{known_at, found_scan, found_at}
+use Rattle.rx_merge_plan.specs.Disjuncts.{found_scan, found_at}
 
 module _ (settings : Settings) (q : Question) (schema : Schema) (cond : Tree) (member : ℕ) where
   abbrev answer : ℕ → Answer

@@ -10,3 +10,4 @@ pub mod Open
 pub mod Primary
 pub mod Running
 pub mod Steps
+pub mod Telling

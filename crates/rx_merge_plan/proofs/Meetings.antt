@@ -9,13 +9,13 @@ use Rattle.rx_cost.specs.declared.candidates.Scan.{Scan}
 use Rattle.rx_cost.specs.declared.candidates.Candidate.{Candidate}
 use Rattle.rx_plan.specs.declared.plans.OrdinaryPlan.{OrdinaryPlan}
 use Rattle.rx_plan.specs.Naming.{columns_named}
-use Rattle.rx_plan.specs.Known.{Ranged, ranged_in}
+use Rattle.rx_plan.specs.Known.{Ranged, ranged_in, known_by}
 use Rattle.rx_plan.specs.Plan.{AreRangeScans, IsOrdinary}
 use Rattle.rx_merges.specs.Fitting.{AreScans}
 use Rattle.rx_merges.specs.Intersections.{intersections_among}
 use Rattle.rx_merges.specs.Rules.{IsIntersection}
 use Rattle.rx_merges.proofs.Ruling.{intersections_are}
-use Rattle.rx_merge_plan.specs.Disjuncts.{known_by, ranged_by, found_scan, ranged_scan, asks_intersections}
+use Rattle.rx_merge_plan.specs.Disjuncts.{ranged_by, found_scan, ranged_scan, asks_intersections}
 use Rattle.rx_merge_plan.specs.Merges.{intersections_at, intersections, CanMerge}
 use Rattle.rx_merge_plan.specs.Lists.{scans_in, AreCounted}
 use Rattle.rx_merge_plan.proofs.Narrowed.{known_same}

@@ -16,11 +16,11 @@ use Rattle.rx_build.proofs.Given.{given_is_answer}
 use Rattle.rx_estimate.specs.Estimates.{parts_in}
 use Rattle.rx_cost.specs.Costs.{most_counted}
 use Rattle.rx_plan.specs.Naming.{is_usable, index_numbers}
-use Rattle.rx_plan.specs.Known.{Known, Ranged, items_limit, IsKnown, IsKnownAs, AreKnown, ranged_as, ranged_in}
+use Rattle.rx_plan.specs.Known.{Known, Ranged, items_limit, IsKnown, IsKnownAs, AreKnown, ranged_as, ranged_in, known_at, known_by}
 use Rattle.rx_plan.proofs.Few.{few_ranges}
 use Rattle.rx_plan.proofs.Once.{one_known}
 use Rattle.rx_merges.specs.Fitting.{most_scans}
-use Rattle.rx_merge_plan.specs.Disjuncts.{known_at, known_by, ranged_by}
+use Rattle.rx_merge_plan.specs.Disjuncts.{ranged_by}
 
 -- an index is there, and is narrowed to no more ranges than may be counted
 pub record IsNarrowed (schema : Schema) (r : Ranged) : Type 0 where

@@ -13,9 +13,9 @@ use Rattle.rx_ranges.specs.Answers.{Answer, no_parts, whole, ranges}
 use Rattle.rx_cost.specs.declared.candidates.Role.TheVariants.{Scan as ScanRole}
 use Rattle.rx_cost.specs.declared.candidates.Scan.{Scan}
 use Rattle.rx_plan.specs.Naming.{is_primary, index_numbers}
-use Rattle.rx_plan.specs.Known.{Ranged, ranged_as, ranged_in}
+use Rattle.rx_plan.specs.Known.{Ranged, ranged_as, ranged_in, known_at}
 use Rattle.rx_merges.specs.Rules.{AreOfCondition}
-use Rattle.rx_merge_plan.specs.Disjuncts.{known_at, ranged_by, found_scan}
+use Rattle.rx_merge_plan.specs.Disjuncts.{ranged_by, found_scan}
 use Rattle.rx_merge_plan.specs.Lists.{AreCounted}
 
 -- ---- numbers of indexes

@@ -13,20 +13,9 @@ use Rattle.rx_estimate.specs.Estimates.{parts_in, uses_statistics, IsEstimate, d
 use Rattle.rx_cost.specs.declared.candidates.Role.TheVariants.{Scan as ScanRole}
 use Rattle.rx_cost.specs.declared.candidates.Scan.{Scan}
 use Rattle.rx_plan.specs.Naming.{is_usable, index_numbers}
-use Rattle.rx_plan.specs.Known.{Known, Ranged, items_limit, ranged_as, ranged_in}
+use Rattle.rx_plan.specs.Known.{Ranged, known_by, known_at, ranged_as, ranged_in}
 use Rattle.rx_plan.specs.Candidates.{estimated}
 use Rattle.rx_merges.specs.Fitting.{most_disjuncts}
-
--- what is known of an index by its number: the answer of a condition on its parts, where the index is usable
-abbrev pub known_at : Settings → Question → Schema → Tree → ℕ → Known
-known_at settings q schema cond index = record {
-  index = index;
-  answer = if is_usable q index then Some (answer_for schema.columns (parts_in schema index) (items_limit settings.memory) cond) else None;
-}
-
--- what is known of all indexes, in order
-abbrev pub known_by : Settings → Question → Schema → Tree → List Known
-known_by settings q schema cond = map (known_at settings q schema cond) (index_numbers schema)
 
 -- the indexes that a condition of its own narrows to ranges, in order
 abbrev pub ranged_by : Settings → Question → Schema → Tree → List Ranged

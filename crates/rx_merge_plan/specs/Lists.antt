@@ -1,5 +1,5 @@
 -- The scans of the disjuncts of a disjunction before and after their rows are counted, and what one conjunct of a condition adds.
-use Rattle.std.specs.Prelude.{ℕ, ◌+◌, ◌≤◌, Bool, not, ◌&&◌, nat_eq, if◌then◌else◌, List, [], ◌∷◌, length, map, Option, Some, None, All}
+use Rattle.std.specs.Prelude.{ℕ, min, ◌+◌, ◌≤◌, Bool, not, ◌&&◌, nat_eq, if◌then◌else◌, List, [], ◌∷◌, length, map, Option, Some, None, All}
 use Rattle.std.specs.List.{list_any, list_all, flat_map, sum_by, AllZip}
 use Rattle.std.specs.Option.{option_to_list}
 use Rattle.rx_value.specs.declared.shapes.Schema.{Schema}
@@ -13,6 +13,7 @@ use Rattle.rx_cost.specs.declared.candidates.Scan.{Scan}
 use Rattle.rx_cost.specs.declared.candidates.Candidate.{Candidate}
 use Rattle.rx_plan.specs.Naming.{is_usable, index_numbers}
 use Rattle.rx_plan.specs.Known.{Ranged}
+use Rattle.rx_plan.specs.Seeks.{most_told}
 use Rattle.rx_plan.specs.Candidates.{estimated}
 use Rattle.rx_merges.specs.Fitting.{most_scans}
 use Rattle.rx_merge_plan.specs.Disjuncts.{found_scan, is_disjunction, is_considered, ranged_lists, seeks_of, IsCountedScan}
@@ -82,3 +83,7 @@ unions_by settings q table t cond = if is_disjunction cond then unions_at settin
 -- how many seeks it takes
 abbrev pub seeks_by : Settings → Question → Schema → Tree → ℕ
 seeks_by settings q schema cond = if is_disjunction cond then seeks_at settings q schema (ranged_lists settings q schema cond) else 0
+
+-- a number of seeks after more, as far as a number goes
+abbrev pub told_after : ℕ → ℕ → ℕ
+told_after seeks more = min most_told (seeks + more)

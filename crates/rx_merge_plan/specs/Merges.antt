@@ -14,11 +14,11 @@ use Rattle.rx_cost.specs.declared.candidates.Scan.{Scan}
 use Rattle.rx_cost.specs.declared.candidates.Candidate.{Candidate}
 use Rattle.rx_cost.specs.Costs.{most_counted}
 use Rattle.rx_plan.specs.Naming.{columns_named}
-use Rattle.rx_plan.specs.Known.{Known, Ranged, ranged_in}
+use Rattle.rx_plan.specs.Known.{Known, Ranged, ranged_in, known_by}
 use Rattle.rx_merges.specs.Intersections.{intersections_among}
 use Rattle.rx_merges.specs.Unions.{union_of}
 use Rattle.rx_merge_plan.specs.declared.plans.MergePlans.{MergePlans}
-use Rattle.rx_merge_plan.specs.Disjuncts.{known_by, scans_of, scan_lists, open_lists, asks_unions, asks_intersections}
+use Rattle.rx_merge_plan.specs.Disjuncts.{scans_of, scan_lists, open_lists, asks_unions, asks_intersections}
 
 -- the intersections of the scans on the indexes that a condition narrows, by the rows that the table tells
 abbrev pub intersections_at : Settings → Question → Meaning → Indexed → List Ranged → List Candidate

@@ -11,7 +11,8 @@ ghost use Rattle.rx_plan.specs.Plan.{IsOrdinary};
 ghost use Rattle.rx_merges.specs.Fitting.{AreScans};
 ghost use Rattle.rx_merges.specs.Intersections.{intersections_among};
 ghost use Rattle.rx_merges.specs.Rules.{IsIntersection};
-ghost use Rattle.rx_merge_plan.specs.Disjuncts.{known_by, asks_intersections};
+ghost use Rattle.rx_plan.specs.Known.{known_by};
+ghost use Rattle.rx_merge_plan.specs.Disjuncts.{asks_intersections};
 ghost use Rattle.rx_merge_plan.specs.Merges.{intersections, CanMerge};
 ghost use Rattle.rx_merge_plan.specs.Lists.{scans_in};
 

@@ -6,7 +6,7 @@ ghost use Rattle.rx_query.specs.declared.settings.Settings.{Settings as settings
 ghost use Rattle.rx_index.specs.declared.indexed.Indexed.{Indexed};
 ghost use Rattle.rx_store.specs.Tables.{Meaning as meaning, IsMeaning};
 ghost use Rattle.rx_merges.specs.Rules.{IsIntersection};
-ghost use Rattle.rx_merge_plan.specs.Disjuncts.{known_by};
+ghost use Rattle.rx_plan.specs.Known.{known_by};
 ghost use Rattle.rx_merge_plan.specs.Merges.{intersections, unions, CanMerge};
 
 /// Each of the defined intersections and unions of a question can be run, and each of the intersections keeps the rules.

@@ -1,10 +1,11 @@
 //! The index merges of a query.
 
-ghost use Rattle.std.specs.Prelude.{◌≡◌, ◌++◌, None, Some, IfOk, IfErr, IfSome, OnOk, All};
+ghost use Rattle.std.specs.Prelude.{◌≡◌, ◌++◌, min, None, Some, IfOk, IfErr, IfSome, OnOk, All};
 ghost use Rattle.rx_query.specs.Steps.{question_of};
 ghost use Rattle.rx_store.specs.Tables.{Keeps};
 ghost use Rattle.rx_estimate.specs.Estimates.{with_seeks};
 ghost use Rattle.rx_plan.specs.Plan.{IsOrdinary};
+ghost use Rattle.rx_plan.specs.Seeks.{most_told};
 ghost use Rattle.rx_merges.specs.Rules.{IsIntersection};
 ghost use Rattle.rx_merge_plan.specs.Disjuncts.{merge_seeks};
 ghost use Rattle.rx_merge_plan.specs.Merges.{AreMerges, CanMerge};
@@ -37,6 +38,7 @@ pub fn merges<T: Table>(
     ensures told { IfOk result (λ plans. IfSome (T.means table.old).told (λ t. AreMerges settings.now (question_of query.now) (T.means table.old) t plans)) }
     ensures can_run { IfOk result (λ plans. All (CanMerge (T.means table.old).schema) (plans.intersections ++ plans.unions)) }
     ensures rules { IfOk result (λ plans. All (IsIntersection (T.means table.old).schema) plans.intersections) }
+    ensures seeks { IfOk result (λ plans. plans.seeks ≡ min most_told (merge_seeks settings.now (question_of query.now) (T.means table.old).schema)) }
     ensures counts { OnOk result ((T.tally table.new).counts ≡ with_seeks (merge_seeks settings.now (question_of query.now) (T.means table.old).schema) (T.tally table.old).counts) }
     ensures keeps { OnOk result (Keeps T.means T.tally T.kept T.spent None table.old table.new) }
     ensures cause { IfErr result (λ f. Keeps T.means T.tally T.kept T.spent (Some f) table.old table.new) }
@@ -44,10 +46,12 @@ pub fn merges<T: Table>(
     let Ok(intersections) = intersections(alloc, query, settings, table, known) else {
         return Err(TableFault::NoMemory);
     };
-    match unions(alloc, query, settings, table) {
+    let mut seeks: u64 = 0;
+    match unions(alloc, query, settings, table, &mut seeks) {
         Ok(unions) => Ok(MergePlans {
             intersections,
             unions,
+            seeks,
         }),
         Err(fault) => Err(fault),
     }

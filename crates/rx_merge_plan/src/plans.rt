@@ -7,4 +7,6 @@ pub struct MergePlans {
     pub intersections: CandidateList,
     /// The unions, those of sorted ids too, at most one for each disjunction.
     pub unions: CandidateList,
+    /// The seeks that counted the ranges of disjuncts, as far as a number goes.
+    pub seeks: u64,
 }

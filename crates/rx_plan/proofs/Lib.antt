@@ -5,3 +5,4 @@ pub mod Named
 pub mod Once
 pub mod Stages
 pub mod Suiting
+pub mod Told

@@ -1,9 +1,9 @@
--- Each candidate is what its kind says.
+-- Each covering scan and each range scan is one.
 use Rattle.std.proofs.Common.{◌≡◌, ◌<◌, ℕ, Bool, true, false, not, List, [], ◌∷◌, ◌++◌, length, map, get_or, Option, Some, None, All, cond, refl, sym, ◌∙◌, subst, arith}
 use Rattle.std.specs.List.{list_all, filter, range_with_len, AllByRecursion}
 use Rattle.std.specs.Option.{is_none}
 use Rattle.std.proofs.lemmas.Bool.{and_parts}
-use Rattle.std.proofs.lemmas.List.{append-nil, map-append}
+use Rattle.std.proofs.lemmas.List.{map-append}
 use Rattle.std.proofs.lemmas.List.Elements.{All-from_recursion, All-from_get_or, recursion_from_All}
 use Rattle.std.proofs.lemmas.List.FromFn.{length-range_with_len, get_or-range_with_len}
 use Rattle.rx_value.specs.declared.ranges.KeyRange.{KeyRange}
@@ -19,8 +19,8 @@ use Rattle.rx_cost.specs.declared.candidates.Candidate.{Candidate}
 use Rattle.rx_named.specs.Naming.{names}
 use Rattle.rx_plan.specs.Naming.{columns_named, are_whole, is_part, covers, is_primary, is_index_only, is_usable}
 use Rattle.rx_plan.specs.Known.{Known, Ranged, IsKnown, IsKnownAs, AreKnown, ranged_as, ranged_in}
-use Rattle.rx_plan.specs.Candidates.{index_scan, is_covering, covering_scans, range_scan, range_scans, estimated, candidates}
-use Rattle.rx_plan.specs.Kinds.{Covers, IsCoveringScan, IsScanOfRanges, IsOfItsKind}
+use Rattle.rx_plan.specs.Candidates.{index_scan, is_covering, covering_scans, range_scan, range_scans, estimated}
+use Rattle.rx_plan.specs.Kinds.{Covers, IsCoveringScan, IsScanOfRanges}
 use Rattle.rx_plan.proofs.Stages.{used_keeps}
 
 range_below : (n : ℕ) → All (λ i. i < n) (range_with_len 0 n)
@@ -67,7 +67,7 @@ not_true : (b : Bool) → not b ≡ true → b ≡ false
 not_true true e = absurd (cc e)
 not_true false e = refl
 
-module _ (settings : Settings) (q : Question) (table : Meaning) (t : Indexed) where
+module _ (q : Question) (table : Meaning) where
   covering_is : (index : ℕ) → index < length table.schema.indexes → is_covering q table.schema index ≡ true → IsCoveringScan q table (index_scan table.count index)
   covering_is index there h =
       let both = and_parts (is_usable q index) (is_index_only q table.schema index) h in
@@ -82,15 +82,23 @@ module _ (settings : Settings) (q : Question) (table : Meaning) (t : Indexed) wh
       }
 
   covering_are : (xs : List ℕ) → AllByRecursion (λ i. i < length table.schema.indexes) xs
-      → AllByRecursion (IsOfItsKind settings q table t) (map (index_scan table.count) (filter (is_covering q table.schema) xs))
+      → AllByRecursion (IsCoveringScan q table) (map (index_scan table.count) (filter (is_covering q table.schema) xs))
   covering_are [] h = tt
   covering_are (x ∷ xs) h = by_test (is_covering q table.schema x) refl (covering_are xs h.1)
     where
-      by_test : (b : Bool) → is_covering q table.schema x ≡ b → AllByRecursion (IsOfItsKind settings q table t) (map (index_scan table.count) (filter (is_covering q table.schema) xs))
-          → AllByRecursion (IsOfItsKind settings q table t) (map (index_scan table.count) (cond b (x ∷ filter (is_covering q table.schema) xs) (filter (is_covering q table.schema) xs)))
+      by_test : (b : Bool) → is_covering q table.schema x ≡ b → AllByRecursion (IsCoveringScan q table) (map (index_scan table.count) (filter (is_covering q table.schema) xs))
+          → AllByRecursion (IsCoveringScan q table) (map (index_scan table.count) (cond b (x ∷ filter (is_covering q table.schema) xs) (filter (is_covering q table.schema) xs)))
       by_test true e later = (covering_is x h.0 e, later)
       by_test false e later = later
 
+  -- all covering scans are such
+  pub coverings_are : All (IsCoveringScan q table) (covering_scans q table)
+  coverings_are =
+      let count = length table.schema.indexes in
+      All-from_recursion (IsCoveringScan q table) (covering_scans q table)
+      (covering_are (range_with_len 0 count) (recursion_from_All (λ (i : ℕ). i < count) (range_with_len 0 count) (range_below count)))
+
+module _ (settings : Settings) (q : Question) (table : Meaning) (t : Indexed) where
   ranged_is : (index p : ℕ) (list : List KeyRange) → index < length table.schema.indexes → IsKnownAs settings q table.schema index (Some (ranges p list))
       → IsScanOfRanges settings q table t (range_scan settings q table.schema (record { index = index; list = list }) (estimated settings table t (record { index = index; list = list })))
   ranged_is index p list there known =
@@ -109,31 +117,29 @@ module _ (settings : Settings) (q : Question) (table : Meaning) (t : Indexed) wh
       }
 
   ranged_are : (index : ℕ) (answer : Option Answer) → index < length table.schema.indexes → IsKnownAs settings q table.schema index answer
-      → AllByRecursion (IsOfItsKind settings q table t) (map (λ r. range_scan settings q table.schema r (estimated settings table t r)) (ranged_as index answer))
+      → AllByRecursion (IsScanOfRanges settings q table t) (map (λ r. range_scan settings q table.schema r (estimated settings table t r)) (ranged_as index answer))
   ranged_are index None there known = tt
   ranged_are index (Some no_parts) there known = tt
   ranged_are index (Some whole) there known = tt
   ranged_are index (Some (ranges p list)) there known = (ranged_is index p list there known, tt)
 
-  joined : (xs ys : List Candidate) → AllByRecursion (IsOfItsKind settings q table t) xs → AllByRecursion (IsOfItsKind settings q table t) ys → AllByRecursion (IsOfItsKind settings q table t) (xs ++ ys)
+  joined : (xs ys : List Candidate) → AllByRecursion (IsScanOfRanges settings q table t) xs → AllByRecursion (IsScanOfRanges settings q table t) ys → AllByRecursion (IsScanOfRanges settings q table t) (xs ++ ys)
   joined [] ys h k = k
   joined (x ∷ xs) ys h k = (h.0, joined xs ys h.1 k)
 
   ranges_are : (known : List Known) → AllByRecursion (λ i. i < length table.schema.indexes) (map (λ k. k.index) known) → AllByRecursion (IsKnown settings q table.schema) known
-      → AllByRecursion (IsOfItsKind settings q table t) (range_scans settings q table t known)
+      → AllByRecursion (IsScanOfRanges settings q table t) (range_scans settings q table t known)
   ranges_are [] h each = tt
   ranges_are (k ∷ known) h each =
-      subst (AllByRecursion (IsOfItsKind settings q table t))
+      subst (AllByRecursion (IsScanOfRanges settings q table t))
       (sym (map-append (λ (r : Ranged). range_scan settings q table.schema r (estimated settings table t r)) (ranged_as k.index k.answer) (ranged_in known)))
       (joined (map (λ (r : Ranged). range_scan settings q table.schema r (estimated settings table t r)) (ranged_as k.index k.answer)) (range_scans settings q table t known)
       (ranged_are k.index k.answer h.0 each.0) (ranges_are known h.1 each.1))
 
-  -- all candidates are of their kinds
-  pub all_of_kinds : (known : List Known) → AreKnown settings q table.schema known → All (IsOfItsKind settings q table t) (candidates settings q table t known)
-  all_of_kinds known are =
+  -- all range scans are such
+  pub ranges_known : (known : List Known) → AreKnown settings q table.schema known → All (IsScanOfRanges settings q table t) (range_scans settings q table t known)
+  ranges_known known are =
       let count = length table.schema.indexes in
       let below = recursion_from_All (λ (i : ℕ). i < count) (range_with_len 0 count) (range_below count) in
-      let covering = covering_are (range_with_len 0 count) below in
-      let ranged = ranges_are known (subst (AllByRecursion (λ (i : ℕ). i < count)) (sym are.numbers) below) (recursion_from_All (IsKnown settings q table.schema) known are.each) in
-      All-from_recursion (IsOfItsKind settings q table t) (candidates settings q table t known)
-      (refl, joined (covering_scans q table) (range_scans settings q table t known ++ []) covering (subst (AllByRecursion (IsOfItsKind settings q table t)) (sym (append-nil (range_scans settings q table t known))) ranged))
+      All-from_recursion (IsScanOfRanges settings q table t) (range_scans settings q table t known)
+      (ranges_are known (subst (AllByRecursion (λ (i : ℕ). i < count)) (sym are.numbers) below) (recursion_from_All (IsKnown settings q table.schema) known are.each))

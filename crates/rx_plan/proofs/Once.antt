@@ -1,24 +1,19 @@
--- What is known of the indexes is there and is one list, and so is the candidate that runs.
-use Rattle.std.proofs.Common.{◌≡◌, ◌<◌, ◌+◌, ℕ, zero, suc, Bool, true, false, List, [], ◌∷◌, ◌++◌, length, map, slice_get, Option, Some, None, All, refl, ap, ap₂, sym, ◌∙◌, subst, add-one, arith}
+-- What is known of the indexes is there and is one list.
+use Rattle.std.proofs.Common.{◌≡◌, ◌<◌, ◌+◌, ℕ, zero, suc, Bool, true, false, List, [], ◌∷◌, ◌++◌, length, map, slice_get, Option, Some, None, All, if◌then◌else◌, refl, ap, ap₂, sym, ◌∙◌, subst, add-one, arith}
 use Rattle.std.specs.List.{range_with_len, AllByRecursion}
 use Rattle.std.proofs.lemmas.List.{length-map, map_push}
-use Rattle.std.proofs.lemmas.List.Elements.{All-nil, All-push, recursion_from_All}
-use Rattle.std.proofs.lemmas.Option.{slice_get-get_or}
+use Rattle.std.proofs.lemmas.List.Elements.{All-nil, All-push, All-from_recursion, recursion_from_All}
 use Rattle.rx_value.specs.declared.shapes.Schema.{Schema}
 use Rattle.rx_query.specs.declared.settings.Settings.{Settings}
 use Rattle.rx_query.specs.Steps.{Question}
-use Rattle.rx_index.specs.declared.indexed.Indexed.{Indexed}
-use Rattle.rx_store.specs.Tables.{Meaning}
 use Rattle.rx_ranges.specs.Answers.{Answer}
 use Rattle.rx_ranges.proofs.One.{one_answer}
 use Rattle.rx_ranges.proofs.Some.{some_answer}
 use Rattle.rx_estimate.specs.Estimates.{parts_in}
-use Rattle.rx_cost.specs.declared.candidates.Candidate.{Candidate}
-use Rattle.rx_cost.specs.Choice.{cost_of, chosen_place}
-use Rattle.rx_cost.proofs.Least.{place_is_first, one_first}
-use Rattle.rx_plan.specs.Naming.{is_usable}
-use Rattle.rx_plan.specs.Known.{Known, items_limit, IsKnown, IsKnownAs, AreKnown}
-use Rattle.rx_plan.specs.Candidates.{table_scan, candidates, chosen, IsChosen}
+use Rattle.rx_build.specs.Given.{answer_for}
+use Rattle.rx_build.proofs.Given.{given_is_answer}
+use Rattle.rx_plan.specs.Naming.{is_usable, index_numbers}
+use Rattle.rx_plan.specs.Known.{Known, items_limit, IsKnown, IsKnownAs, AreKnown, known_at, known_of}
 use Rattle.rx_plan.proofs.Named.{range_more}
 
 module _ (settings : Settings) (q : Question) (schema : Schema) where
@@ -76,19 +71,26 @@ module _ (settings : Settings) (q : Question) (schema : Schema) where
   one_known a b h k =
       same_known a b (h.numbers ∙ sym k.numbers) (recursion_from_All (IsKnown settings q schema) a h.each) (recursion_from_All (IsKnown settings q schema) b k.each)
 
--- the candidate at the chosen place is the first of least cost
-pub first_is_chosen : (settings : Settings) (q : Question) (table : Meaning) (t : Indexed) (known : List Known)
-    → IsChosen (candidates settings q table t known) (chosen settings q table t known)
-first_is_chosen settings q table t known =
-    let all = candidates settings q table t known in
-    let first = place_is_first (map cost_of all) (omega arith) in
-    let within : chosen_place all < length all = omega (arith, first.within, length-map all cost_of) in
-    record { place = chosen_place all; first = first; there = slice_get-get_or all (chosen_place all) (table_scan table.count) within }
+-- ---- what is known as a function
 
-some_same : (a b : Candidate) → Some a ≡ Some b → a ≡ b
-some_same a b e = cc e
+numbers_known : (settings : Settings) (q : Question) (schema : Schema) (ns : List ℕ) → map (λ k. k.index) (map (known_at settings q schema q.cond) ns) ≡ ns
+numbers_known settings q schema [] = refl
+numbers_known settings q schema (n ∷ ns) = ap (λ l. n ∷ l) (numbers_known settings q schema ns)
 
--- and no other is
-pub one_chosen : (all : List Candidate) (a b : Candidate) → IsChosen all a → IsChosen all b → a ≡ b
-one_chosen all a b h k =
-    some_same a b (sym h.there ∙ ap (slice_get all) (one_first (map cost_of all) h.place k.place h.first k.first) ∙ k.there)
+known_if : (settings : Settings) (q : Question) (schema : Schema) (n : ℕ) (b : Bool) → is_usable q n ≡ b
+    → IsKnownAs settings q schema n (if b then Some (answer_for schema.columns (parts_in schema n) (items_limit settings.memory) q.cond) else None)
+known_if settings q schema n true e = (e, given_is_answer schema.columns (parts_in schema n) (items_limit settings.memory) q.cond)
+known_if settings q schema n false e = e
+
+each_known : (settings : Settings) (q : Question) (schema : Schema) (ns : List ℕ) → AllByRecursion (IsKnown settings q schema) (map (known_at settings q schema q.cond) ns)
+each_known settings q schema [] = tt
+each_known settings q schema (n ∷ ns) = (known_if settings q schema n (is_usable q n) refl, each_known settings q schema ns)
+
+pub known_are : (settings : Settings) (q : Question) (schema : Schema) → AreKnown settings q schema (known_of settings q schema)
+known_are settings q schema = record {
+  numbers = numbers_known settings q schema (index_numbers schema);
+  each = All-from_recursion (IsKnown settings q schema) (known_of settings q schema) (each_known settings q schema (index_numbers schema));
+}
+
+pub known_same : (settings : Settings) (q : Question) (schema : Schema) (known : List Known) → AreKnown settings q schema known → known ≡ known_of settings q schema
+known_same settings q schema known are = one_known settings q schema known (known_of settings q schema) are (known_are settings q schema)

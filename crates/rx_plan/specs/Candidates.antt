@@ -1,5 +1,5 @@
--- The candidates of a question in order: all ways to answer it, with their costs, and the one that runs.
-use Rattle.std.specs.Prelude.{◌≡◌, ℕ, Bool, true, false, not, ◌&&◌, List, [], ◌∷◌, ◌++◌, length, map, slice_index_or, slice_get, Some}
+-- The candidates of a question that need no planner of their own: the table scan, the covering scans and the range scans, with their costs.
+use Rattle.std.specs.Prelude.{◌≡◌, ℕ, Bool, true, false, not, ◌&&◌, List, [], ◌∷◌, length, map}
 use Rattle.std.specs.List.{filter}
 use Rattle.rx_value.specs.declared.ranges.KeyRange.{KeyRange}
 use Rattle.rx_value.specs.declared.shapes.Schema.{Schema}
@@ -14,7 +14,6 @@ use Rattle.rx_cost.specs.declared.candidates.Role.TheVariants.{Whole, Scan as Sc
 use Rattle.rx_cost.specs.declared.candidates.Scan.{Scan}
 use Rattle.rx_cost.specs.declared.candidates.Candidate.{Candidate}
 use Rattle.rx_cost.specs.Costs.{table_cost_of, index_cost_of, range_cost_of}
-use Rattle.rx_cost.specs.Choice.{cost_of, IsFirstLeast, chosen_place}
 use Rattle.rx_plan.specs.Naming.{is_usable, is_index_only, is_primary, index_numbers}
 use Rattle.rx_plan.specs.Known.{Known, Ranged, ranged_in}
 
@@ -61,41 +60,3 @@ estimated settings table t r = estimate_of settings.dive_limit table.count (numb
 -- the range scans in order, by what is known of the indexes and the rows that the table tells
 abbrev pub range_scans : Settings → Question → Meaning → Indexed → List Known → List Candidate
 range_scans settings q table t known = map (λ r. range_scan settings q table.schema r (estimated settings table t r)) (ranged_in known)
-
--- the loose scans in order: none as long as there is no planner of them
-abbrev pub loose_scans : Settings → Question → Meaning → List Candidate
-loose_scans settings q table = []
-
--- the skip scans in order: none as long as there is no planner of them
-abbrev pub skip_scans : Settings → Question → Meaning → List Candidate
-skip_scans settings q table = []
-
--- the intersections in order: none as long as there is no planner of index merges
-abbrev pub intersections : Settings → Question → Meaning → Indexed → List Known → List Candidate
-intersections settings q table t known = []
-
--- the unions in order, those of sorted ids too: none as long as there is no planner of index merges
-abbrev pub unions : Settings → Question → Meaning → Indexed → List Known → List Candidate
-unions settings q table t known = []
-
--- All candidates of a question in order, by what is known of the indexes and the rows that the table tells: the table scan, the covering scans,
--- the loose scans, the skip scans, the range scans, the intersections, the unions.
-abbrev pub candidates : Settings → Question → Meaning → Indexed → List Known → List Candidate
-candidates settings q table t known =
-    table_scan table.count ∷ (covering_scans q table
-    ++ (loose_scans settings q table
-    ++ (skip_scans settings q table
-    ++ (range_scans settings q table t known
-    ++ (intersections settings q table t known
-    ++ unions settings q table t known)))))
-
--- at the place of the first of the least costs stands this candidate
-pub record IsChosen (all : List Candidate) (candidate : Candidate) : Type 0 where
-  pub place : ℕ
-  pub first : IsFirstLeast (map cost_of all) place
-  pub there : slice_get all place ≡ Some candidate
-
--- the candidate that runs
-abbrev pub chosen : Settings → Question → Meaning → Indexed → List Known → Candidate
-chosen settings q table t known =
-    slice_index_or (candidates settings q table t known) (chosen_place (candidates settings q table t known)) (table_scan table.count)

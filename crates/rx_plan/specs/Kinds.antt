@@ -1,4 +1,4 @@
--- What a candidate of each kind is.
+-- What a covering scan and a range scan are.
 use Rattle.std.specs.Prelude.{◌≡◌, ◌<◌, ℕ, true, false, List, length, None, All}
 use Rattle.rx_value.specs.declared.shapes.Part.{Part}
 use Rattle.rx_query.specs.declared.settings.Settings.{Settings}
@@ -7,13 +7,11 @@ use Rattle.rx_index.specs.declared.indexed.Indexed.{Indexed}
 use Rattle.rx_store.specs.Tables.{Meaning, HasIndex}
 use Rattle.rx_ranges.specs.Answers.{IsUsed}
 use Rattle.rx_estimate.specs.Estimates.{parts_in}
-use Rattle.rx_cost.specs.declared.candidates.Kind.{Kind}
-use Rattle.rx_cost.specs.declared.candidates.Kind.TheVariants.{Table, Index, Range}
 use Rattle.rx_cost.specs.declared.candidates.Candidate.{Candidate}
 use Rattle.rx_named.specs.Naming.{names}
 use Rattle.rx_plan.specs.Naming.{is_part, is_usable, is_primary}
 use Rattle.rx_plan.specs.Known.{Ranged, items_limit}
-use Rattle.rx_plan.specs.Candidates.{table_scan, index_scan, range_scan, estimated}
+use Rattle.rx_plan.specs.Candidates.{index_scan, range_scan, estimated}
 use Rattle.rx_plan.specs.Plan.{KeepsRows}
 
 -- an index has each column of a table of so many columns that a question names, none of its parts with a prefix length
@@ -42,14 +40,3 @@ pub record IsScanOfRanges (settings : Settings) (q : Question) (table : Meaning)
   pub keep : KeepsRows table.schema q.cond candidate
   pub secondary : candidate.index_only ≡ true → is_primary table.schema r.index ≡ false
   pub covers : candidate.index_only ≡ true → Covers q (length table.schema.columns) (parts_in table.schema r.index)
-
--- what a candidate of a kind is; there are no candidates of the other kinds as long as there is no planner of them
-abbrev pub IsOfKind : Kind → Settings → Question → Meaning → Indexed → Candidate → Type 0
-IsOfKind Table settings q table t candidate = candidate ≡ table_scan table.count
-IsOfKind Index settings q table t candidate = IsCoveringScan q table candidate
-IsOfKind Range settings q table t candidate = IsScanOfRanges settings q table t candidate
-IsOfKind _ settings q table t candidate = ⊥
-
--- a candidate is what its kind says
-abbrev pub IsOfItsKind : Settings → Question → Meaning → Indexed → Candidate → Type 0
-IsOfItsKind settings q table t candidate = IsOfKind candidate.kind settings q table t candidate

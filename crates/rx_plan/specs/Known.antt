@@ -5,7 +5,9 @@ use Rattle.rx_value.specs.declared.ranges.KeyRange.{KeyRange}
 use Rattle.rx_value.specs.declared.shapes.Schema.{Schema}
 use Rattle.rx_query.specs.declared.settings.Settings.{Settings}
 use Rattle.rx_query.specs.Steps.{Question}
+use Rattle.rx_cond.specs.Tree.{Tree}
 use Rattle.rx_ranges.specs.Answers.{Answer, no_parts, whole, ranges, IsAnswer}
+use Rattle.rx_build.specs.Given.{answer_for}
 use Rattle.rx_cost.specs.declared.candidates.Reason.{Reason}
 use Rattle.rx_cost.specs.declared.candidates.Reason.TheVariants.{Ranges, Whole, NoParts, Hint}
 use Rattle.rx_estimate.specs.Estimates.{parts_in, dive_seeks}
@@ -35,6 +37,21 @@ IsKnown settings q schema known = IsKnownAs settings q schema known.index known.
 pub record AreKnown (settings : Settings) (q : Question) (schema : Schema) (known : List Known) : Type 0 where
   pub numbers : map (λ k. k.index) known ≡ index_numbers schema
   pub each : All (IsKnown settings q schema) known
+
+-- what is known of an index by its number: the answer of a condition on its parts, where the index is usable
+abbrev pub known_at : Settings → Question → Schema → Tree → ℕ → Known
+known_at settings q schema cond index = record {
+  index = index;
+  answer = if is_usable q index then Some (answer_for schema.columns (parts_in schema index) (items_limit settings.memory) cond) else None;
+}
+
+-- what is known of all indexes by a condition, in order
+abbrev pub known_by : Settings → Question → Schema → Tree → List Known
+known_by settings q schema cond = map (known_at settings q schema cond) (index_numbers schema)
+
+-- the same by the condition of the question
+abbrev pub known_of : Settings → Question → Schema → List Known
+known_of settings q schema = known_by settings q schema q.cond
 
 -- why there is a range scan of an index, or none
 abbrev pub reason_as : Option Answer → Reason

@@ -4,3 +4,4 @@ pub mod Known
 pub mod Naming
 pub mod Parts
 pub mod Plan
+pub mod Seeks

@@ -3,8 +3,8 @@ use Rattle.std.specs.List.{range_with_len}
 use Rattle.rx_cond.specs.Tree.{tree_of}
 use Rattle.rx_query.specs.Steps.{question_of}
 use Rattle.rx_index.proofs.Making.{few_indexes}
-use Rattle.rx_plan.specs.Known.{ranged_in}
-use Rattle.rx_merge_plan.specs.Disjuncts.{known_at, found_scan}
+use Rattle.rx_plan.specs.Known.{ranged_in, known_at}
+use Rattle.rx_merge_plan.specs.Disjuncts.{found_scan}
 use Rattle.rx_merge_plan.proofs.Found.{found_more, found_all}
 use Rattle.rx_merge_plan.proofs.finding.find_scans.Goals as goal
 

@@ -6,7 +6,8 @@ use Rattle.rx_store.proofs.Chains.{Keeps-chain}
 use Rattle.rx_estimate.specs.Estimates.{with_seeks}
 use Rattle.rx_estimate.proofs.Steps.{with_seeks-more}
 use Rattle.rx_merge_plan.specs.Merges.{CanMerge}
-use Rattle.rx_merge_plan.specs.Lists.{unions_by, seeks_by}
+use Rattle.rx_merge_plan.specs.Lists.{unions_by, seeks_by, told_after}
+use Rattle.rx_merge_plan.proofs.Telling.{told_twice}
 use Rattle.rx_merge_plan.proofs.Steps.{trees_all, told_more, sum_more, all_more}
 use Rattle.rx_merge_plan.proofs.uniting.plan_conjuncts.Goals as goal
 
@@ -30,6 +31,9 @@ loop-cond-preserved g c =
       counts = (rw here.keeps.means_stays at c.in-Ok.ensures.counts)
           ∙ with_seeks-more (sum_by f done) (f (tree_of c.cond-item.result.now)) before (g.T.Table.tally c.loop-cond.table).counts here.counts
           ∙ ap (λ n. with_seeks n before) (sym (sum_more (λ r. r.now) tree_of items i c.cond-item.result c.loop-cond-test.true c.cond-item.is f));
+      seeks = (rw here.keeps.means_stays at c.in-Ok.ensures.seeks)
+          ∙ told_twice c.args.seeks.now c.loop-cond.seeks (sum_by f done) (f (tree_of c.cond-item.result.now)) here.seeks
+          ∙ ap (told_after c.args.seeks.now) (sym (sum_more (λ r. r.now) tree_of items i c.cond-item.result c.loop-cond-test.true c.cond-item.is f));
       keeps = Keeps-chain g.met.T.Table.kept_chained g.met.T.Table.spent_chained _ _ _ _ here.keeps c.in-Ok.ensures.keeps;
     }
 
@@ -47,5 +51,14 @@ returns-clause-counts g c =
     let f = seeks_by c.args.settings.now (question_of c.args.query.now) table.schema in
     c.loop-cond.invariant.counts
     ∙ ap (λ (trees : List Tree). with_seeks (sum_by f trees) (g.T.Table.tally c.args.table.now).counts)
+    (trees_all (λ r. r.now) tree_of c.as_slice-cond-items.result.now c.loop-cond.cond-index c.loop-cond-test.false
+    ∙ ap (map tree_of) c.as_slice-cond-items.ensures)
+
+pub returns-clause-seeks : goal.returns-clause-seeks
+returns-clause-seeks g c =
+    let table = g.T.Table.means c.args.table.now in
+    let f = seeks_by c.args.settings.now (question_of c.args.query.now) table.schema in
+    c.loop-cond.invariant.seeks
+    ∙ ap (λ (trees : List Tree). told_after c.args.seeks.now (sum_by f trees))
     (trees_all (λ r. r.now) tree_of c.as_slice-cond-items.result.now c.loop-cond.cond-index c.loop-cond-test.false
     ∙ ap (map tree_of) c.as_slice-cond-items.ensures)

@@ -3,7 +3,7 @@
 ghost use Rattle.std.specs.Prelude.{◌≡◌, min, not};
 ghost use Rattle.std.specs.List.{sum_by};
 ghost use Rattle.rx_estimate.specs.Estimates.{is_dived};
-ghost use Rattle.rx_engine.specs.Seeks.{most_told, seeks_of_scan, seeks_of_candidate};
+ghost use Rattle.rx_plan.specs.Seeks.{most_told, seeks_of_scan, seeks_of_candidate};
 
 use rx_cost::{Candidate, Scan};
 use rx_value::KeyRange;
@@ -28,24 +28,24 @@ fn seeks_of_scan(scan: &Scan) -> u64
     seeks
 }
 
-// How many seeks counted the entries of a candidate's ranges.
-fn seeks_of_candidate(candidate: &Candidate) -> u64
-    ensures { result ≡ min most_told (seeks_of_candidate candidate.now) }
+/// How many seeks counted the entries of the ranges of scans, as far as a number goes.
+pub fn seeks_of_scans(scans: &[Scan]) -> u64
+    ensures { result ≡ min most_told (sum_by seeks_of_scan scans.now) }
 {
     let mut seeks: u64 = 0;
-    for scan in candidate.scans.as_slice() {
+    for scan in scans {
         seeks = seeks.saturating_add(seeks_of_scan(scan));
     }
     seeks
 }
 
-/// How many seeks counted the entries of the ranges of candidates.
-pub(crate) fn seeks_of(candidates: &[Candidate]) -> u64
+/// How many seeks counted the entries of the ranges of candidates, as far as a number goes.
+pub fn seeks_of(candidates: &[Candidate]) -> u64
     ensures { result ≡ min most_told (sum_by seeks_of_candidate candidates.now) }
 {
     let mut seeks: u64 = 0;
     for candidate in candidates {
-        seeks = seeks.saturating_add(seeks_of_candidate(candidate));
+        seeks = seeks.saturating_add(seeks_of_scans(candidate.scans.as_slice()));
     }
     seeks
 }

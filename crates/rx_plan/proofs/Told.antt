@@ -2,7 +2,7 @@
 use Rattle.std.proofs.Common.{◌≡◌, ◌≤◌, ℕ, ◌+◌, List, [], ◌∷◌, min, refl, ap, sym, ◌∙◌, arith}
 use Rattle.std.specs.List.{sum_by}
 use Rattle.std.proofs.lemmas.List.Sums.{sum_by-cons}
-use Rattle.rx_engine.specs.Seeks.{most_told}
+use Rattle.rx_plan.specs.Seeks.{most_told}
 
 -- so far the sum over the first elements of a list, and these are left
 pub record IsSummed {X : Type 0} (f : X → ℕ) (all left : List X) (sum : ℕ) : Type 0 where

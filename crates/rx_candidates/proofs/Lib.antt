@@ -1,0 +1,4 @@
+mod Examples
+pub mod Listed
+pub mod Members
+pub mod Once
